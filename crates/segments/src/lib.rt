@@ -1,0 +1,82 @@
+//! The degrees that a trie may have and the path of a hash through it.
+//!
+//! This is the lowest layer of the shelf beside the sparse array: numbers alone, and nothing stands below it.
+//! A degree's row says how many bits of a hash each branch takes and at how many depths branches stand; a
+//! segment is the part of a hash that one depth takes.
+//!
+//! A caller may rely on this, for any numbers:
+//! - `degree_row` answers the row of document 01's table, or that the degree is not there;
+//! - `index_from_hash` answers the segment at a depth, that the hash is exhausted there, or that there is no such
+//!   degree.
+//!
+//! The laws in proofs/TableLaws.antt say what the rows have in common, those in proofs/SegmentLaws.antt that segments
+//! fit their branch and determine a hash, and those in proofs/IndexLaws.antt which depths have a segment.
+
+ghost use mathlib.Core.Path.{_≡_};
+ghost use Prim.Native.Nat.{_*_, _≤_, _<_};
+ghost use Rattle.segments.specs.Segments.{segment, rowOf, indexOf};
+
+// The row of a degree: the bits of a segment, the depths at which branches stand, and the bits that are left
+// for the last of them.
+pub enum DegreeRow {
+    Found { bits: u64, depths: u64, last: u64 },
+    NotInTable,
+}
+
+// The place of a hash among the children of a branch at some depth.
+pub enum Index {
+    At(u64),
+    Exhausted,
+    NoSuchDegree,
+}
+
+// A row of the table, so that the table below reads as one.
+fn row(bits: u64, depths: u64, last: u64) -> DegreeRow
+    ensures { λ r. ⌜ r ≡ DegreeRow.Found bits depths last ⌝ }
+{
+    DegreeRow::Found { bits, depths, last }
+}
+
+pub fn degree_row(degree: u64) -> DegreeRow
+    ensures { λ r. ⌜ r ≡ rowOf degree ⌝ }
+{
+    match degree {
+        2 => row(1, 64, 1),
+        4 => row(2, 32, 2),
+        8 => row(3, 22, 1),
+        16 => row(4, 16, 4),
+        32 => row(5, 13, 4),
+        64 => row(6, 11, 4),
+        _ => DegreeRow::NotInTable,
+    }
+}
+
+// The segment at a depth that exists, for the layers of the shelf that have a row in hand. The divisor is a power of
+// two, so this is a shift and a mask and no division.
+pub fn segment_at(hash: u64, depth: u64, bits: u64) -> u64
+    requires { ⌜ (depth * bits < 64) × (bits ≤ 6) ⌝ }
+    ensures { λ r. ⌜ r ≡ segment bits depth hash ⌝ }
+{
+    let shift = depth * bits;
+    (hash >> shift) % (1u64 << bits)
+}
+
+// The depths of the row are tested and not the shift, so that no depth, however large, overflows.
+pub fn index_from_hash(hash: u64, depth: u64, degree: u64) -> Index
+    ensures { λ r. ⌜ r ≡ indexOf hash depth degree ⌝ }
+{
+    match degree_row(degree) {
+        DegreeRow::Found {
+            bits,
+            depths,
+            last: _,
+        } => {
+            if depth < depths {
+                Index::At(segment_at(hash, depth, bits))
+            } else {
+                Index::Exhausted
+            }
+        }
+        DegreeRow::NotInTable => Index::NoSuchDegree,
+    }
+}

@@ -1,0 +1,8 @@
+pub mod Order
+pub mod Bitmap
+pub mod Array
+pub mod Room
+pub mod Places
+pub mod Finds
+pub mod Shift
+pub mod Changes
