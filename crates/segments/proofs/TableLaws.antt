@@ -12,7 +12,7 @@ use lib.Dec.{T, eqb, ltb, leb, eqb→eq, ltb→lt, leb→le}
 use borrow.Author.Tests.{eqb-true}
 use Rattle.segments.specs.declared.DegreeRow.{DegreeRow}
 use Rattle.segments.specs.declared.DegreeRow.the-variants.{Found, NotInTable}
-use Rattle.segments.specs.Segments.{Row, row, table, In, find, rowOf}
+use Rattle.segments.specs.Segments.{Row, row, table, Listed, find, rowOf}
 
 -- What the columns of a row have to do with each other.
 pub record Right (r : Row) : Type 0 where
@@ -47,8 +47,8 @@ every f [] = true
 every f (q ∷ qs) = f q && every f qs
 
 -- A test that passes over a list passes at each row of it.
-at : (f : Row → Bool) (rows : List Row) (r : Row) → T (every f rows) → In rows r → T (f r)
-unfolding In
+at : (f : Row → Bool) (rows : List Row) (r : Row) → T (every f rows) → Listed rows r → T (f r)
+unfolding Listed
 at f [] r t i = absurd i
 at f (q ∷ qs) r t (inl e) = subst (λ (x : Row). T (f x)) e (and-T (f q) (every f qs) t .0)
 at f (q ∷ qs) r t (inr i) = at f qs r (and-T (f q) (every f qs) t .1) i
@@ -66,7 +66,7 @@ tests r =
     ∷ []
 
 -- THE TABLE'S RULE: every row of it is right.
-pub row-right : (r : Row) → In table r → Right r
+pub row-right : (r : Row) → Listed table r → Right r
 unfolding table
 row-right r i =
     let (p, (b, (f, (d, (c, (l, (m, u))))))) = each (tests r) (at (λ q. all (tests q)) table r tt i) in
@@ -93,13 +93,13 @@ below-depths r k t = (
   λ s. lt-of-mul-lt-mul-right (r .bits) (lt-of-lt-of-le s (depths-cover r k)),
 )
 
-found-in : (rows : List Row) (g b d l : ℕ) → find rows g ≡ Found b d l → In rows (row g b d l)
-unfolding find In
+found-in : (rows : List Row) (g b d l : ℕ) → find rows g ≡ Found b d l → Listed rows (row g b d l)
+unfolding find Listed
 found-in [] g b d l q = let z : _≡_ {A = ℕ} 0 1 = cc in absurd (omega arith)
 found-in (r ∷ rs) g b d l q = by (λ q. found-in rs g b d l q) (eqb g (r .degree)) refl q
   where
-    by : (find rs g ≡ Found b d l → In rs (row g b d l)) → (t : Bool) → eqb g (r .degree) ≡ t
-        → cond t (Found (r .bits) (r .depths) (r .last)) (find rs g) ≡ Found b d l → (r ≡ row g b d l) ⊎ In rs (row g b d l)
+    by : (find rs g ≡ Found b d l → Listed rs (row g b d l)) → (t : Bool) → eqb g (r .degree) ≡ t
+        → cond t (Found (r .bits) (r .depths) (r .last)) (find rs g) ≡ Found b d l → (r ≡ row g b d l) ⊎ Listed rs (row g b d l)
     by later true e q =
         let same : g ≡ r .degree = eqb-true _ _ e in
         let bits : b ≡ r .bits = cc in
@@ -109,7 +109,7 @@ found-in (r ∷ rs) g b d l q = by (λ q. found-in rs g b d l q) (eqb g (r .degr
     by later false e q = inr (later q)
 
 -- What is found for a degree is its row in the table.
-pub row-of-in : (g b d l : ℕ) → rowOf g ≡ Found b d l → In table (row g b d l)
+pub row-of-in : (g b d l : ℕ) → rowOf g ≡ Found b d l → Listed table (row g b d l)
 unfolding rowOf
 row-of-in g b d l q = found-in table g b d l q
 
@@ -125,10 +125,10 @@ is-row-found (Found b d l) r t =
 is-row-found NotInTable r t = absurd t
 
 -- And every row of the table is found for its degree.
-pub row-of-found : (r : Row) → In table r → rowOf (r .degree) ≡ Found (r .bits) (r .depths) (r .last)
+pub row-of-found : (r : Row) → Listed table r → rowOf (r .degree) ≡ Found (r .bits) (r .depths) (r .last)
 unfolding table rowOf find
 row-of-found r i = is-row-found (rowOf (r .degree)) r (at (λ q. is-row (rowOf (q .degree)) q) table r tt i)
 
 -- So a degree for which none is found has no row.
-pub row-of-none : (g : ℕ) → rowOf g ≡ NotInTable → (r : Row) → In table r → r .degree ≡ g → ⊥
+pub row-of-none : (g : ℕ) → rowOf g ≡ NotInTable → (r : Row) → Listed table r → r .degree ≡ g → ⊥
 row-of-none g none r i e = let z : _≡_ {A = ℕ} 0 1 = cc (row-of-found r i) in omega arith

@@ -32,9 +32,9 @@ table =
     ∷ []
 
 -- A row stands in a list of rows.
-unfoldable pub In : List Row → Row → Type 0
-In [] r = ⊥
-In (q ∷ qs) r = (q ≡ r) ⊎ In qs r
+unfoldable pub Listed : List Row → Row → Type 0
+Listed [] r = ⊥
+Listed (q ∷ qs) r = (q ≡ r) ⊎ Listed qs r
 
 -- The first row of a degree in a list of rows, or none.
 unfoldable pub find : List Row → ℕ → DegreeRow

@@ -1,4 +1,6 @@
--- The tries that the rules can build are the canonical ones. One way each rule keeps a trie canonical; the other way a root branch is built by inserting its listing from the back, and a root entry by inserting it with company and removing the company again. Canonical tries with one listing are equal.
+-- The tries that the rules can build are the canonical ones. One way each rule keeps a trie canonical; the other way a root
+-- branch is built by inserting its listing from the back, and a root entry by inserting it with company and removing the
+-- company again. Canonical tries with one listing are equal.
 use mathlib.Core.Path.{_≡_, refl, sym, _∙_, ap, subst}
 use mathlib.Core.Bool.{true, false}
 use mathlib.Core.Logic.{_⊎_, inl, inr, ⊎-elim}
@@ -41,7 +43,8 @@ module _ (seg : ℕ → ℕ → ℕ) (d : ℕ) where
   pub built-canonical : {m : Map (Unit {0})} → Built seg (suc d) m → Good m
   built-canonical nothing = unfold Canonical in tt
   built-canonical (inserted {m = m} e w t) = canonical-insert seg d Word64 unnamed unnamed e m w (built-canonical t)
-  built-canonical (removed {m = m} {m' = m'} h k t q) = canonical-remove seg d Word64 unnamed unnamed h k m m' q (built-canonical t)
+  built-canonical (removed {m = m} {m' = m'} h k t q)
+      = canonical-remove seg d Word64 unnamed unnamed h k m m' q (built-canonical t)
 
   -- A ROOT BRANCH, from its listing
   no-entry : {l : List Entry} → Begins l → [] ≡ l → ⊥
@@ -62,7 +65,8 @@ module _ (seg : ℕ → ℕ → ℕ) (d : ℕ) where
   rebuilt-lists (e ∷ es) w (u, o) (l, r) =
       let ws : Word64 e × All Word64 es = unfold All in w in
       map-lists-insert seg d Word64 unnamed unnamed e (rebuilt es) (built-canonical (rebuilt-built es (ws .1)))
-      ∙ ap (place seg (suc d) 0 e) (rebuilt-lists es (ws .1) o r) ∙ place-left seg (suc d) 0 e [] es l u ∙ ap (λ (z : List Entry). z ++ es) (place-none seg (suc d) 0 e)
+      ∙ ap (place seg (suc d) 0 e) (rebuilt-lists es (ws .1) o r) ∙ place-left seg (suc d) 0 e [] es l u
+      ∙ ap (λ (z : List Entry). z ++ es) (place-none seg (suc d) 0 e)
 
   data Branched : Map (Unit {0}) → Type 0 where
     branched : (ks : Kids (Unit {0})) → Branched (root (branch tt ks))
@@ -78,7 +82,8 @@ module _ (seg : ℕ → ℕ → ℕ) (d : ℕ) where
   rebuilt-branched (e ∷ es) = inr (insert-branched e (rebuilt es) (rebuilt-branched es))
 
   branch-built : (ks : Kids (Unit {0})) → Good (root (branch tt ks)) → Built seg (suc d) (root (branch tt ks))
-  branch-built ks c = go (rebuilt es) (rebuilt-branched es) (rebuilt-built es words) (rebuilt-lists es words (map-listing-once seg d Word64 m c) (map-listing-ordered seg d Word64 m c))
+  branch-built ks c = go (rebuilt es) (rebuilt-branched es) (rebuilt-built es words)
+      (rebuilt-lists es words (map-listing-once seg d Word64 m c) (map-listing-ordered seg d Word64 m c))
     where
       m : Map (Unit {0})
       m = root (branch tt ks)
@@ -90,15 +95,19 @@ module _ (seg : ℕ → ℕ → ℕ) (d : ℕ) where
       node = unfold Canonical in c
 
       words : All Word64 es
-      words = unfold listing in (all-weak (In seg Word64 []) Word64 (λ e i. i .1) (listingNode (branch tt ks)) (listing-under seg Word64 (suc d) [] Some (branch tt ks) node))
+      words = unfold listing in (all-weak (In seg Word64 []) Word64 (λ e i. i .1) (listingNode (branch tt ks))
+          (listing-under seg Word64 (suc d) [] Some (branch tt ks) node))
 
       go : (r : Map (Unit {0})) → (r ≡ empty) ⊎ Branched r → Built seg (suc d) r → listing r ≡ es → Built seg (suc d) m
-      go r (inl q) b l = absurd (no-entry (canon-lists seg Word64 (suc d) [] Some (λ is s. s) (branch tt ks) node) (unfold listing in (sym (ap listing q) ∙ l)))
+      go r (inl q) b l = absurd (no-entry (canon-lists seg Word64 (suc d) [] Some (λ is s. s) (branch tt ks) node)
+          (unfold listing in (sym (ap listing q) ∙ l)))
       go r (inr (branched is)) b l =
-          subst (Built seg (suc d)) (ap root (branch-unique seg Word64 d [] Some Some tt tt is ks (unfold Canonical in (built-canonical b)) node (unfold listing in l))) b
+          subst (Built seg (suc d)) (ap root (branch-unique seg Word64 d [] Some Some tt tt is ks
+          (unfold Canonical in (built-canonical b)) node (unfold listing in l))) b
 
   -- A ROOT ENTRY, by company that comes and goes
-  module _ (x : Item (Unit {0})) (w : Word64 (x .entry)) (y : Entry) (wy : Word64 y) (ne : matches (y .hash) (y .key) (x .entry) ≡ false) where
+  module _ (x : Item (Unit {0})) (w : Word64 (x .entry)) (y : Entry) (wy : Word64 y)
+      (ne : matches (y .hash) (y .key) (x .entry) ≡ false) where
     pair : Map (Unit {0})
     pair = ins y (ins (x .entry) empty)
 
@@ -110,17 +119,22 @@ module _ (seg : ℕ → ℕ → ℕ) (d : ℕ) where
     unfolding pair
     pair-lists =
         map-lists-insert seg d Word64 unnamed unnamed y (ins (x .entry) empty) (built-canonical (inserted (x .entry) w nothing))
-        ∙ ap (place seg (suc d) 0 y) (map-lists-insert seg d Word64 unnamed unnamed (x .entry) empty (built-canonical nothing) ∙ unfold listing in (place-none seg (suc d) 0 (x .entry)))
+        ∙ ap (place seg (suc d) 0 y) (map-lists-insert seg d Word64 unnamed unnamed (x .entry) empty (built-canonical nothing)
+        ∙ unfold listing in (place-none seg (suc d) 0 (x .entry)))
 
     pair-has : get seg (suc d) (y .hash) (y .key) pair ≡ got (y .value)
     unfolding pair
-    pair-has = get-insert-same seg d Word64 unnamed unnamed y (ins (x .entry) empty) wy (built-canonical (inserted (x .entry) w nothing))
+    pair-has = get-insert-same seg d Word64 unnamed unnamed y (ins (x .entry) empty) wy
+        (built-canonical (inserted (x .entry) w nothing))
 
-    alone : {m m' : Map (Unit {0})} → Removal seg d Word64 unnamed unnamed (y .hash) (y .key) m m' → Good m → listing m' ≡ x .entry ∷ [] → m' ≡ root (leaf (x ∷ []))
+    alone : {m m' : Map (Unit {0})} → Removal seg d Word64 unnamed unnamed (y .hash) (y .key) m m' → Good m → listing m'
+        ≡ x .entry ∷ [] → m' ≡ root (leaf (x ∷ []))
     unfolding Canonical tidy listing
-    alone (taken-out n v g) c l = go (removeNode seg unnamed unnamed (suc d) 0 (y .hash) (y .key) n) (root-remove seg Word64 unnamed unnamed (y .hash) (y .key) (suc d) [] n v c g) l
+    alone (taken-out n v g) c l = go (removeNode seg unnamed unnamed (suc d) 0 (y .hash) (y .key) n)
+        (root-remove seg Word64 unnamed unnamed (y .hash) (y .key) (suc d) [] n v c g) l
       where
-        go : (m : Node (Unit {0})) → (is-empty m ≡ true) ⊎ Canon seg Word64 Busy (suc d) [] m → listing (tidy m) ≡ x .entry ∷ [] → tidy m ≡ root (leaf (x ∷ []))
+        go : (m : Node (Unit {0})) → (is-empty m ≡ true) ⊎ Canon seg Word64 Busy (suc d) [] m → listing (tidy m) ≡ x .entry ∷ []
+            → tidy m ≡ root (leaf (x ∷ []))
         go m (inl q) l = absurd (no-entry (begins (x .entry) []) (rw q at l))
         go m (inr c) l =
             let q : is-empty m ≡ false = canon-full seg Word64 (suc d) [] m c in
@@ -135,12 +149,14 @@ module _ (seg : ℕ → ℕ → ℕ) (d : ℕ) where
         let lists : listing m' ≡ x .entry ∷ []
         = map-lists-remove seg d Word64 unnamed unnamed (y .hash) (y .key) pair m' q c ∙ ap (cut (y .hash) (y .key)) pair-lists
         ∙ place-cut seg (suc d) 0 y (x .entry ∷ []) (unfold All in (ne, tt)) in
-        subst (Built seg (suc d)) (alone (removal seg d Word64 unnamed unnamed (y .hash) (y .key) pair m' q) c lists) (removed (y .hash) (y .key) pair-built q)
+        subst (Built seg (suc d)) (alone (removal seg d Word64 unnamed unnamed (y .hash) (y .key) pair m' q) c lists)
+        (removed (y .hash) (y .key) pair-built q)
 
   -- WHAT IS CANONICAL CAN BE BUILT
   pub canonical-built : (m : Map (Unit {0})) → Good m → Built seg (suc d) m
   canonical-built empty c = nothing
   canonical-built (root (leaf [])) c = absurd (unfold Canonical Canon in c)
-  canonical-built (root (leaf (x ∷ []))) c = let w : Word64 (x .entry) = unfold Canonical Canon in (c .1) in let (y, wy, ne) = other (x .entry) w in left-alone x w y wy ne
+  canonical-built (root (leaf (x ∷ []))) c = let w : Word64 (x .entry) = unfold Canonical Canon in (c .1) in let (y, wy, ne)
+      = other (x .entry) w in left-alone x w y wy ne
   canonical-built (root (leaf (x ∷ (y ∷ xs)))) c = absurd (unfold Canonical Canon in c)
   canonical-built (root (branch u ks)) c = branch-built ks c

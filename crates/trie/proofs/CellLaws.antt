@@ -1,4 +1,6 @@
--- What an update takes. The names in the result are the old ones, less those that it gives up (the branches on the old path; the chain's entries up to the key), and new ones: b 0, b 1, .. and f 0, f 1, .., as many as document 01 counts. It is said for every weight on names, so it says of each name how often it stands there.
+-- What an update takes. The names in the result are the old ones, less those that it gives up (the branches on the old path;
+-- the chain's entries up to the key), and new ones: b 0, b 1, .. and f 0, f 1, .., as many as document 01 counts. It is said
+-- for every weight on names, so it says of each name how often it stands there.
 use mathlib.Core.Path.{_≡_, refl, _∙_, ap}
 use mathlib.Core.List.{[], _∷_}
 use Prim.Native.Nat.{ℕ, suc, _+_, _≤_}
@@ -29,11 +31,13 @@ module _ (seg : ℕ → ℕ → ℕ) (d : ℕ) (W : Entry → Type 0) {X : Type 
 
   -- INSERT
   pub insert-branch-names : (e : Entry) (m : Map X) → Good m
-      → onMap (branchSum w) (insert seg (suc d) b f e m) + pathSum (e .hash) m ≡ onMap (branchSum w) m + news w b 0 (insertTakes seg (suc d) b f e m .branches)
+      → onMap (branchSum w) (insert seg (suc d) b f e m) + pathSum (e .hash) m
+      ≡ onMap (branchSum w) m + news w b 0 (insertTakes seg (suc d) b f e m .branches)
   unfolding insert onMap insertTakes branchesOn Canonical
   insert-branch-names e empty c =
       let one : along seg (λ (c : X). 1) (suc d) 0 (e .hash) (branch (b 0) (kid (seg 0 (e .hash)) (single f e) none)) ≡ 1 + 0
-      = along-found seg (λ (c : X). 1) d 0 (e .hash) (b 0) (kid (seg 0 (e .hash)) (single f e) none) (single f e) (child-hit (seg 0 (e .hash)) (seg 0 (e .hash)) (single f e) none refl)
+      = along-found seg (λ (c : X). 1) d 0 (e .hash) (b 0) (kid (seg 0 (e .hash)) (single f e) none) (single f e)
+      (child-hit (seg 0 (e .hash)) (seg 0 (e .hash)) (single f e) none refl)
       ∙ ap (λ (z : ℕ). 1 + z) (along-leaf seg (λ (c : X). 1) d 1 (e .hash) (item (f 0) e ∷ [])) in
       omega (arith, total-only w (λ xs. 0) (b 0) (seg 0 (e .hash)) (single f e), leaf-none, news-next seg w b 0 0 _ one, no-news)
     where
@@ -42,12 +46,19 @@ module _ (seg : ℕ → ℕ → ℕ) (d : ℕ) (W : Entry → Type 0) {X : Type 
 
       no-news : news w b 1 0 ≡ 0
       no-news = unfold news in refl
-  insert-branch-names e (root m) c = omega (arith, insert-branches seg W b f e w (suc d) [] Some m c, insert-fresh seg b f e w (suc d) 0 m)
+  insert-branch-names e (root m) c = omega
+      (arith, insert-branches seg W b f e w (suc d) [] Some m c, insert-fresh seg b f e w (suc d) 0 m)
 
   pub insert-entry-names : (e : Entry) (m : Map X) → Good m
-      → onMap (entrySum w) (insert seg (suc d) b f e m) + goneSum (e .hash) (e .key) m ≡ onMap (entrySum w) m + news w f 0 (insertTakes seg (suc d) b f e m .entries)
+      → onMap (entrySum w) (insert seg (suc d) b f e m) + goneSum (e .hash) (e .key) m
+      ≡ onMap (entrySum w) m + news w f 0 (insertTakes seg (suc d) b f e m .entries)
   unfolding insert onMap insertTakes standBefore Canonical
-  insert-entry-names e empty c = omega (arith, total-only (λ c. 0) (cells w) (b 0) (seg 0 (e .hash)) (single f e), one-entry, one-new)
+  insert-entry-names e empty c = omega (
+    arith,
+    total-only (λ c. 0) (cells w) (b 0) (seg 0 (e .hash)) (single f e),
+    one-entry,
+    one-new,
+  )
     where
       one-entry : entrySum w (single f e) ≡ w (f 0) + 0
       one-entry = unfold total cells in refl
@@ -55,17 +66,24 @@ module _ (seg : ℕ → ℕ → ℕ) (d : ℕ) (W : Entry → Type 0) {X : Type 
       one-new : news w f 0 1 ≡ w (f 0) + 0
       one-new = unfold news in refl
   insert-entry-names e (root m) c =
-      omega (arith, insert-entries seg W b f e w (suc d) [] Some m c, news-next seg w f 0 (before (e .hash) (e .key) (chain seg (suc d) 0 (e .hash) m)) _ refl)
+      omega (
+        arith,
+        insert-entries seg W b f e w (suc d) [] Some m c,
+        news-next seg w f 0
+            (before (e .hash) (e .key) (chain seg (suc d) 0 (e .hash) m)) _ refl,
+      )
 
   -- REMOVE
-  tidy-branches : (h : ℕ) (m : Node X) → onMap (branchSum w) (tidy m) + along seg w (suc d) 0 h m ≡ branchSum w m + pathSum h (tidy m)
+  tidy-branches : (h : ℕ) (m : Node X) → onMap (branchSum w) (tidy m) + along seg w (suc d) 0 h m
+      ≡ branchSum w m + pathSum h (tidy m)
   unfolding tidy is-empty onMap total along child onFound
   tidy-branches h (leaf []) = refl
   tidy-branches h (leaf (x ∷ xs)) = refl
   tidy-branches h (branch c none) = omega arith
   tidy-branches h (branch c (kid s m ks)) = refl
 
-  tidy-fresh : (h : ℕ) (m : Node X) → along seg w (suc d) 0 h m ≡ news w b 0 (along seg (λ c. 1) (suc d) 0 h m) → pathSum h (tidy m) ≡ news w b 0 (branchesOn seg (suc d) h (tidy m))
+  tidy-fresh : (h : ℕ) (m : Node X) → along seg w (suc d) 0 h m ≡ news w b 0 (along seg (λ c. 1) (suc d) 0 h m)
+      → pathSum h (tidy m) ≡ news w b 0 (branchesOn seg (suc d) h (tidy m))
   unfolding tidy is-empty onMap branchesOn
   tidy-fresh h (leaf []) q = unfold news in refl
   tidy-fresh h (leaf (x ∷ xs)) q = q
@@ -124,18 +142,47 @@ module _ (seg : ℕ → ℕ → ℕ) (d : ℕ) (W : Entry → Type 0) {X : Type 
   gone-inside h k (root m) = omega (arith, gone-within w h k (chain seg (suc d) 0 h m), chain-within seg w (suc d) 0 h m)
 
   -- THE COUNTS: where a new name weighs 1 and an old one 0, the result weighs what document 01 counts
-  module _ (new-b : (j : ℕ) → w (b j) ≡ 1) (new-f : (j : ℕ) → w (f j) ≡ 1) (m : Map X) (c : Good m) (old-b : onMap (branchSum w) m ≡ 0) (old-f : onMap (entrySum w) m ≡ 0) where
-    pub insert-new-branches : (e : Entry) → onMap (branchSum w) (insert seg (suc d) b f e m) ≡ insertTakes seg (suc d) b f e m .branches
-    insert-new-branches e = omega (arith, insert-branch-names e m c, path-within (e .hash) m, news-ones w b new-b 0 (insertTakes seg (suc d) b f e m .branches))
+  module _ (new-b : (j : ℕ) → w (b j) ≡ 1) (new-f : (j : ℕ) → w (f j) ≡ 1) (m : Map X) (c : Good m)
+      (old-b : onMap (branchSum w) m ≡ 0) (old-f : onMap (entrySum w) m ≡ 0) where
+    pub insert-new-branches : (e : Entry) → onMap (branchSum w) (insert seg (suc d) b f e m)
+        ≡ insertTakes seg (suc d) b f e m .branches
+    insert-new-branches e = omega (
+      arith,
+      insert-branch-names e m c,
+      path-within (e .hash) m,
+      news-ones w b new-b 0
+          (insertTakes seg (suc d) b f e m .branches),
+    )
 
-    pub insert-new-entries : (e : Entry) → onMap (entrySum w) (insert seg (suc d) b f e m) ≡ insertTakes seg (suc d) b f e m .entries
-    insert-new-entries e = omega (arith, insert-entry-names e m c, gone-inside (e .hash) (e .key) m, news-ones w f new-f 0 (insertTakes seg (suc d) b f e m .entries))
+    pub insert-new-entries : (e : Entry) → onMap (entrySum w) (insert seg (suc d) b f e m)
+        ≡ insertTakes seg (suc d) b f e m .entries
+    insert-new-entries e = omega (
+      arith,
+      insert-entry-names e m c,
+      gone-inside (e .hash) (e .key) m,
+      news-ones w f new-f 0
+          (insertTakes seg (suc d) b f e m .entries),
+    )
 
-    pub remove-new-branches : (h k : ℕ) (m' : Map X) → remove seg (suc d) b f h k m ≡ updated m' → onMap (branchSum w) m' ≡ removeTakes seg (suc d) b f h k m .branches
-    remove-new-branches h k m' q = omega (arith, remove-branch-names h k m m' q c, path-within h m, news-ones w b new-b 0 (removeTakes seg (suc d) b f h k m .branches))
+    pub remove-new-branches : (h k : ℕ) (m' : Map X) → remove seg (suc d) b f h k m ≡ updated m' → onMap (branchSum w) m'
+        ≡ removeTakes seg (suc d) b f h k m .branches
+    remove-new-branches h k m' q = omega (
+      arith,
+      remove-branch-names h k m m' q c,
+      path-within h m,
+      news-ones w b new-b 0
+          (removeTakes seg (suc d) b f h k m .branches),
+    )
 
-    pub remove-new-entries : (h k : ℕ) (m' : Map X) → remove seg (suc d) b f h k m ≡ updated m' → onMap (entrySum w) m' ≡ removeTakes seg (suc d) b f h k m .entries
-    remove-new-entries h k m' q = omega (arith, remove-entry-names h k m m' q c, gone-inside h k m, news-ones w f new-f 0 (removeTakes seg (suc d) b f h k m .entries))
+    pub remove-new-entries : (h k : ℕ) (m' : Map X) → remove seg (suc d) b f h k m ≡ updated m' → onMap (entrySum w) m'
+        ≡ removeTakes seg (suc d) b f h k m .entries
+    remove-new-entries h k m' q = omega (
+      arith,
+      remove-entry-names h k m m' q c,
+      gone-inside h k m,
+      news-ones w f new-f 0
+          (removeTakes seg (suc d) b f h k m .entries),
+    )
 
 -- AT MOST ONE BRANCH CELL FOR EACH DEPTH
 module _ (seg : ℕ → ℕ → ℕ) (d : ℕ) {X : Type 0} (b f : ℕ → X) (m : Map X) where

@@ -15,7 +15,8 @@ byGot absent a b P p q = q
 byGot (got v) a b P p q = p
 
 module _ {X : Type 0} where
-  pub find-hit : (h k : ℕ) (x : Item X) (xs : List (Item X)) → matches h k (x .entry) ≡ true → find h k (x ∷ xs) ≡ got (x .entry .value)
+  pub find-hit : (h k : ℕ) (x : Item X) (xs : List (Item X)) → matches h k (x .entry) ≡ true → find h k (x ∷ xs)
+      ≡ got (x .entry .value)
   unfolding find
   find-hit h k x xs e = rw e
 
@@ -23,7 +24,8 @@ module _ {X : Type 0} where
   unfolding find
   find-miss h k x xs e = rw e
 
-  pub copied-hit : (f : ℕ → X) (j h k : ℕ) (x : Item X) (xs : List (Item X)) → matches h k (x .entry) ≡ true → copied f j h k (x ∷ xs) ≡ xs
+  pub copied-hit : (f : ℕ → X) (j h k : ℕ) (x : Item X) (xs : List (Item X)) → matches h k (x .entry) ≡ true
+      → copied f j h k (x ∷ xs) ≡ xs
   unfolding copied
   copied-hit f j h k x xs e = rw e
 
@@ -31,19 +33,6 @@ module _ {X : Type 0} where
       → copied f j h k (x ∷ xs) ≡ item (f j) (x .entry) ∷ copied f (suc j) h k xs
   unfolding copied
   copied-miss f j h k x xs e = rw e
-
-  -- what is found by another key
-  pub find-copied-other : (f : ℕ → X) (j h k h' k' : ℕ) (xs : List (Item X)) → ((e : Entry) → matches h k e ≡ true → matches h' k' e ≡ true → ⊥)
-      → find h' k' (copied f j h k xs) ≡ find h' k' xs
-  find-copied-other f j h k h' k' [] ne = unfold copied in refl
-  find-copied-other f j h k h' k' (x ∷ xs) ne =
-      split (matches h k (x .entry))
-      (λ p. split (matches h' k' (x .entry)) (λ q. absurd (ne (x .entry) p q))
-      (λ q. rw (copied-hit f j h k x xs p) (sym (find-miss h' k' x xs q))))
-      (λ p. split (matches h' k' (x .entry))
-      (λ q. rw (copied-miss f j h k x xs p) (find-hit h' k' (item (f j) (x .entry)) _ q ∙ sym (find-hit h' k' x xs q)))
-      (λ q. rw (copied-miss f j h k x xs p)
-      (find-miss h' k' (item (f j) (x .entry)) _ q ∙ find-copied-other f (suc j) h k h' k' xs ne ∙ sym (find-miss h' k' x xs q))))
 
   -- the key itself is gone
   pub find-copied-same : (f : ℕ → X) (j h k : ℕ) (xs : List (Item X)) → Distinct xs → find h k (copied f j h k xs) ≡ absent
@@ -55,7 +44,8 @@ module _ {X : Type 0} where
       rw (copied-hit f j h k x xs p, ← e .0, ← e .1) d)
       (λ p. rw (copied-miss f j h k x xs p) (find-miss h k (item (f j) (x .entry)) _ p ∙ find-copied-same f (suc j) h k xs ds))
 
-  pub all-copied : (P : Entry → Type 0) (f : ℕ → X) (j h k : ℕ) (xs : List (Item X)) → AllItems P xs → AllItems P (copied f j h k xs)
+  pub all-copied : (P : Entry → Type 0) (f : ℕ → X) (j h k : ℕ) (xs : List (Item X)) → AllItems P xs
+      → AllItems P (copied f j h k xs)
   unfolding AllItems
   all-copied P f j h k [] a = unfold copied in tt
   all-copied P f j h k (x ∷ xs) (a, more-a) =
@@ -63,13 +53,15 @@ module _ {X : Type 0} where
       (λ p. rw (copied-miss f j h k x xs p) (a, all-copied P f (suc j) h k xs more-a))
 
   -- an absent key stays absent
-  find-copied-absent : (f : ℕ → X) (j h k h' k' : ℕ) (xs : List (Item X)) → find h' k' xs ≡ absent → find h' k' (copied f j h k xs) ≡ absent
+  find-copied-absent : (f : ℕ → X) (j h k h' k' : ℕ) (xs : List (Item X)) → find h' k' xs ≡ absent
+      → find h' k' (copied f j h k xs) ≡ absent
   find-copied-absent f j h k h' k' [] a = unfold copied in a
   find-copied-absent f j h k h' k' (x ∷ xs) a =
       split (matches h' k' (x .entry)) (λ q. let z : _≡_ {A = ℕ} 0 1 = cc (find-hit h' k' x xs q) in absurd (omega arith))
       (λ q. let a' : find h' k' xs ≡ absent = sym (find-miss h' k' x xs q) ∙ a in
       split (matches h k (x .entry)) (λ p. rw (copied-hit f j h k x xs p) a')
-      (λ p. rw (copied-miss f j h k x xs p) (find-miss h' k' (item (f j) (x .entry)) _ q ∙ find-copied-absent f (suc j) h k h' k' xs a')))
+      (λ p. rw (copied-miss f j h k x xs p) (find-miss h' k' (item (f j) (x .entry)) _ q
+      ∙ find-copied-absent f (suc j) h k h' k' xs a')))
 
   pub distinct-copied : (f : ℕ → X) (j h k : ℕ) (xs : List (Item X)) → Distinct xs → Distinct (copied f j h k xs)
   unfolding Distinct
@@ -79,13 +71,8 @@ module _ {X : Type 0} where
       (λ p. rw (copied-miss f j h k x xs p)
       (find-copied-absent f (suc j) h k (x .entry .hash) (x .entry .key) xs d, distinct-copied f (suc j) h k xs ds))
 
-  -- list-remove-first: copied where the key is there, else all as it was
-  pub find-removed-other : (f : ℕ → X) (j h k h' k' : ℕ) (xs : List (Item X)) → ((e : Entry) → matches h k e ≡ true → matches h' k' e ≡ true → ⊥)
-      → find h' k' (list-remove-first f j h k xs) ≡ find h' k' xs
-  unfolding list-remove-first
-  find-removed-other f j h k h' k' xs ne = byGot (find h k xs) _ _ (λ (l : List (Item X)). find h' k' l ≡ find h' k' xs) (find-copied-other f j h k h' k' xs ne) refl
-
-  pub find-removed-same : (f : ℕ → X) (j h k : ℕ) (xs : List (Item X)) → Distinct xs → find h k (list-remove-first f j h k xs) ≡ absent
+  pub find-removed-same : (f : ℕ → X) (j h k : ℕ) (xs : List (Item X)) → Distinct xs → find h k (list-remove-first f j h k xs)
+      ≡ absent
   unfolding list-remove-first ifGot
   find-removed-same f j h k xs d = go (find h k xs) refl
     where
@@ -93,7 +80,8 @@ module _ {X : Type 0} where
       go absent e = e
       go (got v) e = find-copied-same f j h k xs d
 
-  pub all-removed : (P : Entry → Type 0) (f : ℕ → X) (j h k : ℕ) (xs : List (Item X)) → AllItems P xs → AllItems P (list-remove-first f j h k xs)
+  pub all-removed : (P : Entry → Type 0) (f : ℕ → X) (j h k : ℕ) (xs : List (Item X)) → AllItems P xs
+      → AllItems P (list-remove-first f j h k xs)
   unfolding list-remove-first
   all-removed P f j h k xs a = byGot (find h k xs) _ _ (λ (l : List (Item X)). AllItems P l) (all-copied P f j h k xs a) a
 

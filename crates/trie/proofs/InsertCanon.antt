@@ -32,7 +32,8 @@ ask-some X = record { of-busy = busy-some; of-put = λ s n ks a big. some-put s 
 
 module _ (seg : ℕ → ℕ → ℕ) (W : Entry → Type 0) {X : Type 0} where
   -- a single goes one depth down
-  pub single-down : (n : ℕ) (path : List ℕ) (x : Item X) (s : ℕ) → seg (length path) (x .entry .hash) ≡ s → In seg W path (x .entry) → Canon seg W Busy n (s ∷ path) (leaf (x ∷ []))
+  pub single-down : (n : ℕ) (path : List ℕ) (x : Item X) (s : ℕ) → seg (length path) (x .entry .hash) ≡ s
+      → In seg W path (x .entry) → Canon seg W Busy n (s ∷ path) (leaf (x ∷ []))
   unfolding Canon NonEmpty AllItems Distinct Under
   single-down zero path x s e (u, w) = (tt, (((e, u), w), tt), (find-none X (x .entry .hash) (x .entry .key), tt))
   single-down (suc n) path x s e (u, w) = ((e, u), w)
@@ -54,9 +55,11 @@ module _ {X : Type 0} where
 
   pub copied-two : (f : ℕ → X) (j h k : ℕ) (x y : Item X) (xs : List (Item X)) → NonEmpty (copied f j h k (x ∷ (y ∷ xs)))
   unfolding NonEmpty
-  copied-two f j h k x y xs = split (matches h k (x .entry)) (λ p. rw (copied-hit f j h k x (y ∷ xs) p) tt) (λ p. rw (copied-miss f j h k x (y ∷ xs) p) tt)
+  copied-two f j h k x y xs = split (matches h k (x .entry)) (λ p. rw (copied-hit f j h k x (y ∷ xs) p) tt)
+      (λ p. rw (copied-miss f j h k x (y ∷ xs) p) tt)
 
-  pub removed-two : (f : ℕ → X) (j h k : ℕ) (x y : Item X) (xs : List (Item X)) → NonEmpty (list-remove-first f j h k (x ∷ (y ∷ xs)))
+  pub removed-two : (f : ℕ → X) (j h k : ℕ) (x y : Item X) (xs : List (Item X))
+      → NonEmpty (list-remove-first f j h k (x ∷ (y ∷ xs)))
   unfolding list-remove-first ifGot
   removed-two f j h k x y xs = go (find h k (x ∷ (y ∷ xs)))
     where
@@ -70,11 +73,13 @@ module _ {X : Type 0} where
 
 module _ (seg : ℕ → ℕ → ℕ) (W : Entry → Type 0) {X : Type 0} (b : ℕ → X) (f : ℕ → X) (e : Entry) where
   -- what is no single stays none
-  pub big-insert : (n : ℕ) (path : List ℕ) (Q : Kids X → Type 0) (m : Node X) → Canon seg W Q n path m → Big m → Big (insertNode seg b f n (length path) e m)
+  pub big-insert : (n : ℕ) (path : List ℕ) (Q : Kids X → Type 0) (m : Node X) → Canon seg W Q n path m → Big m
+      → Big (insertNode seg b f n (length path) e m)
   unfolding Canon Big insertNode
   big-insert zero path Q (leaf []) c a = absurd a
   big-insert zero path Q (leaf (x ∷ [])) c a = absurd a
-  big-insert zero path Q (leaf (x ∷ (y ∷ xs))) c a = unfold push-front in (big-two (item (f 0) e) _ (removed-two f 1 (e .hash) (e .key) x y xs))
+  big-insert zero path Q (leaf (x ∷ (y ∷ xs))) c a
+      = unfold push-front in (big-two (item (f 0) e) _ (removed-two f 1 (e .hash) (e .key) x y xs))
   big-insert zero path Q (branch d ks) c a = absurd c
   big-insert (suc n) path Q (leaf []) c a = absurd a
   big-insert (suc n) path Q (leaf (x ∷ [])) c a = absurd a
@@ -82,13 +87,16 @@ module _ (seg : ℕ → ℕ → ℕ) (W : Entry → Type 0) {X : Type 0} (b : �
   big-insert (suc n) path Q (branch d ks) c a = tt
 
   -- a single that gets company
-  pub big-company : (n t : ℕ) (x : Item X) → matches (e .hash) (e .key) (x .entry) ≡ false → Big (insertNode seg b f n t e (leaf (x ∷ [])))
+  pub big-company : (n t : ℕ) (x : Item X) → matches (e .hash) (e .key) (x .entry) ≡ false
+      → Big (insertNode seg b f n t e (leaf (x ∷ [])))
   unfolding Big
   big-company zero t x p =
       unfold insertNode push-front in
-      (rw (removed-absent f 1 (e .hash) (e .key) (x ∷ []) (find-miss (e .hash) (e .key) x [] p ∙ find-none X (e .hash) (e .key))) tt)
+      (rw (removed-absent f 1 (e .hash) (e .key) (x ∷ []) (find-miss (e .hash) (e .key) x [] p ∙ find-none X (e .hash) (e .key)))
+      tt)
   big-company (suc n) t x p =
-      ⊎-elim (λ q. rw (insert-deep seg b f n t e x [] p q) tt) (λ q. rw (insert-apart seg b f n t e x [] p q) tt) (eq? (seg t (x .entry .hash)) (seg t (e .hash)))
+      ⊎-elim (λ q. rw (insert-deep seg b f n t e x [] p q) tt) (λ q. rw (insert-apart seg b f n t e x [] p q) tt)
+      (eq? (seg t (x .entry .hash)) (seg t (e .hash)))
 
   -- a single, new
   pub canon-single : (n : ℕ) (path : List ℕ) (Q : Kids X → Type 0) → In seg W path e → Canon seg W Q n path (single f e)
@@ -100,7 +108,8 @@ module _ (seg : ℕ → ℕ → ℕ) (W : Entry → Type 0) {X : Type 0} (b : �
   unfolding Under
   down path (u, w) = ((refl, u), w)
 
-  pub canon-insert : (n : ℕ) (path : List ℕ) (Q : Kids X → Type 0) → Ask Q → (m : Node X) → Canon seg W Q n path m → In seg W path e
+  pub canon-insert : (n : ℕ) (path : List ℕ) (Q : Kids X → Type 0) → Ask Q → (m : Node X) → Canon seg W Q n path m
+      → In seg W path e
       → Canon seg W Q n path (insertNode seg b f n (length path) e m)
   unfolding Canon Asc Above AllKids Busy NonEmpty AllItems Distinct
   canon-insert zero path Q ask (leaf xs) (some, all, dist) i =
@@ -121,13 +130,18 @@ module _ (seg : ℕ → ℕ → ℕ) (W : Entry → Type 0) {X : Type 0} (b : �
       ((
         ask .of-busy _ (big-company n (suc t) x p),
         tt,
-        (canon-insert n (seg t (e .hash) ∷ path) Busy (ask-busy X) (leaf (x ∷ [])) (single-down seg W n path x (seg t (e .hash)) q c) (down path i), tt),
+        (
+          canon-insert n (seg t (e .hash) ∷ path) Busy (ask-busy X) (leaf (x ∷ []))
+              (single-down seg W n path x (seg t (e .hash)) q c) (down path i),
+          tt,
+        ),
       )))
       (λ q. rw (insert-apart seg b f n t e x [] p q)
       ((
         ask .of-busy _ (busy-apart (seg t (e .hash)) (seg t (x .entry .hash)) (single f e) (leaf (x ∷ [])) q),
         asc-put (seg t (e .hash)) (single f e) (kid (seg t (x .entry .hash)) (leaf (x ∷ [])) none) tt,
-        all-put (λ s m. Canon seg W Busy n (s ∷ path) m) (seg t (e .hash)) (single f e) (kid (seg t (x .entry .hash)) (leaf (x ∷ [])) none)
+        all-put (λ s m. Canon seg W Busy n (s ∷ path) m) (seg t (e .hash)) (single f e)
+            (kid (seg t (x .entry .hash)) (leaf (x ∷ [])) none)
             (canon-single n (seg t (e .hash) ∷ path) Busy (down path i))
             (single-down seg W n path x (seg t (x .entry .hash)) refl c, tt),
       )))
@@ -145,12 +159,15 @@ module _ (seg : ℕ → ℕ → ℕ) (W : Entry → Type 0) {X : Type 0} (b : �
           → Canon seg W Q (suc n) path (insertNode seg b f (suc n) (length path) e (branch d ks))
       go ih missing r =
           rw (insert-new seg b f n (length path) e d ks r) (
-            ask .of-put (seg (length path) (e .hash)) (single f e) ks q (λ m z. absurd (let w : _≡_ {A = ℕ} 0 1 = cc in omega arith)),
+            ask .of-put (seg (length path) (e .hash)) (single f e) ks q
+                (λ m z. absurd (let w : _≡_ {A = ℕ} 0 1 = cc in omega arith)),
             asc-put (seg (length path) (e .hash)) (single f e) ks asc,
-            all-put P (seg (length path) (e .hash)) (single f e) ks (canon-single n (seg (length path) (e .hash) ∷ path) Busy (down path i)) all,
+            all-put P (seg (length path) (e .hash)) (single f e) ks
+                (canon-single n (seg (length path) (e .hash) ∷ path) Busy (down path i)) all,
           )
       go ih (found m) r =
-          let cm : Canon seg W Busy n (seg (length path) (e .hash) ∷ path) m = all-child P (seg (length path) (e .hash)) ks m all r in
+          let cm : Canon seg W Busy n (seg (length path) (e .hash) ∷ path) m
+          = all-child P (seg (length path) (e .hash)) ks m all r in
           rw (insert-at seg b f n (length path) e d ks m r) (
             ask .of-put (seg (length path) (e .hash)) (insertNode seg b f n (suc (length path)) e m) ks q
                 (λ m' z. elim-same m m' (same-found z r) cm),
@@ -158,8 +175,10 @@ module _ (seg : ℕ → ℕ → ℕ) (W : Entry → Type 0) {X : Type 0} (b : �
             all-put P (seg (length path) (e .hash)) (insertNode seg b f n (suc (length path)) e m) ks (ih m cm) all,
           )
         where
-          same-found : {m' : Node X} → child (seg (length path) (e .hash)) ks ≡ found m' → child (seg (length path) (e .hash)) ks ≡ found m → m' ≡ m
+          same-found : {m' : Node X} → child (seg (length path) (e .hash)) ks ≡ found m' → child (seg (length path) (e .hash)) ks
+              ≡ found m → m' ≡ m
           same-found z r = cc
 
-          elim-same : (m m' : Node X) → m' ≡ m → Canon seg W Busy n (seg (length path) (e .hash) ∷ path) m → Big m' → Big (insertNode seg b f n (suc (length path)) e m)
+          elim-same : (m m' : Node X) → m' ≡ m → Canon seg W Busy n (seg (length path) (e .hash) ∷ path) m → Big m'
+              → Big (insertNode seg b f n (suc (length path)) e m)
           elim-same m m' z cm big = big-insert n (seg (length path) (e .hash) ∷ path) Busy m cm (rw z at big)

@@ -1,4 +1,4 @@
--- The children of a branch: what stands at a segment, the order, and sums, after put and take-out.
+-- The children of a branch: what stands at a segment, their order and how many they are, after put and take-out.
 use mathlib.Core.Path.{_≡_, refl, sym, _∙_, ap}
 use mathlib.Core.Logic.{_⊎_, inl, inr}
 use Prim.Native.Nat.{ℕ, _<_, _≤_}
@@ -84,7 +84,8 @@ module _ {X : Type 0} where
   child-take s none a = unfold take-out child in refl
   child-take s (kid i m ks) a = go ks a (child-take s ks (above-asc i ks a)) (eq? i s)
     where
-      go : (ks : Kids X) → Above i ks → child s (take-out s ks) ≡ missing → (i ≡ s) ⊎ (i ≡ s → ⊥) → child s (take-out s (kid i m ks)) ≡ missing
+      go : (ks : Kids X) → Above i ks → child s (take-out s ks) ≡ missing → (i ≡ s) ⊎ (i ≡ s → ⊥)
+          → child s (take-out s (kid i m ks)) ≡ missing
       go ks a ih (inl e) = rw (take-hit s i m ks e) (child-above s i ks a (omega arith))
       go ks a ih (inr ne) = rw (take-miss s i m ks ne) (child-miss s i m (take-out s ks) ne ∙ ih)
 
@@ -92,7 +93,8 @@ module _ {X : Type 0} where
   child-take-other r s none ne = unfold take-out child in refl
   child-take-other r s (kid i m ks) ne = go (child-take-other r s ks ne) (eq? i s) (eq? i r)
     where
-      go : child r (take-out s ks) ≡ child r ks → (i ≡ s) ⊎ (i ≡ s → ⊥) → (i ≡ r) ⊎ (i ≡ r → ⊥) → child r (take-out s (kid i m ks)) ≡ child r (kid i m ks)
+      go : child r (take-out s ks) ≡ child r ks → (i ≡ s) ⊎ (i ≡ s → ⊥) → (i ≡ r) ⊎ (i ≡ r → ⊥)
+          → child r (take-out s (kid i m ks)) ≡ child r (kid i m ks)
       go ih (inl e) (inl q) = absurd (ne (sym e ∙ q))
       go ih (inl e) (inr q) = rw (take-hit s i m ks e) (sym (child-miss r i m ks q))
       go ih (inr e) (inl q) = rw (take-miss s i m ks e) (child-hit r i m (take-out s ks) q ∙ sym (child-hit r i m ks q))
@@ -196,7 +198,8 @@ module _ {X : Type 0} where
       go (is-equal e) = rw (put-hit s i n m ks (sym e)) tt
       go (is-more q) = rw (put-more s i n m ks q) tt
 
-  pub busy-put : (s : ℕ) (n : Node X) (ks : Kids X) → Busy ks → ((m : Node X) → child s ks ≡ found m → Big m → Big n) → Busy (put s n ks)
+  pub busy-put : (s : ℕ) (n : Node X) (ks : Kids X) → Busy ks → ((m : Node X) → child s ks ≡ found m → Big m → Big n)
+      → Busy (put s n ks)
   unfolding Busy put
   busy-put s n none a big = absurd a
   busy-put s n (kid i m none) a big = go (tri s i)

@@ -1,4 +1,4 @@
--- Plain lists of entries: what is found, how many there are and what is kept after cut and place, and how these pass over an append.
+-- Plain lists of entries: what is found and how many there are after cut, and how all this passes over an append.
 use mathlib.Core.Path.{_≡_, refl, sym, _∙_, ap}
 use mathlib.Core.Bool.{true, false}
 use mathlib.Core.List.{List, [], _∷_, _++_}
@@ -25,13 +25,6 @@ cut-hit h k e es p = rw p
 pub cut-miss : (h k : ℕ) (e : Entry) (es : List Entry) → matches h k e ≡ false → cut h k (e ∷ es) ≡ e ∷ cut h k es
 unfolding cut
 cut-miss h k e es p = rw p
-
--- two keys that one entry matches are one, and an entry matches its own key only
-pub one-key : (h k h' k' : ℕ) (e : Entry) → matches h k e ≡ true → matches h' k' e ≡ true → (h ≡ h') × (k ≡ k')
-one-key h k h' k' e p q =
-    let a : (e .hash ≡ h) × (e .key ≡ k) = matches-true h k e p in
-    let b : (e .hash ≡ h') × (e .key ≡ k') = matches-true h' k' e q in
-    (sym (a .0) ∙ b .0, sym (a .1) ∙ b .1)
 
 -- ALL
 pub all-append : (P : Entry → Type 0) (xs ys : List Entry) → All P xs → All P ys → All P (xs ++ ys)
@@ -86,31 +79,37 @@ module _ (h k : ℕ) where
   cut-left [] ys a = cut-none ys a ∙ unfold cut in refl
   cut-left (e ∷ es) ys a =
       split (matches h k e) (λ p. cut-hit h k e (es ++ ys) p ∙ sym (ap (λ (l : List Entry). l ++ ys) (cut-hit h k e es p)))
-      (λ p. cut-miss h k e (es ++ ys) p ∙ ap (λ (l : List Entry). e ∷ l) (cut-left es ys a) ∙ sym (ap (λ (l : List Entry). l ++ ys) (cut-miss h k e es p)))
+      (λ p. cut-miss h k e (es ++ ys) p ∙ ap (λ (l : List Entry). e ∷ l) (cut-left es ys a)
+      ∙ sym (ap (λ (l : List Entry). l ++ ys) (cut-miss h k e es p)))
 
-pub pairwise-append : (R : Entry → Entry → Type 0) (xs ys : List Entry) → Pairwise R xs → Pairwise R ys → All (λ x. All (R x) ys) xs → Pairwise R (xs ++ ys)
+pub pairwise-append : (R : Entry → Entry → Type 0) (xs ys : List Entry) → Pairwise R xs → Pairwise R ys
+    → All (λ x. All (R x) ys) xs → Pairwise R (xs ++ ys)
 unfolding Pairwise All
 pairwise-append R [] ys a b c = b
 pairwise-append R (x ∷ xs) ys (p, a) b (q, c) = (all-append (R x) xs ys p q, pairwise-append R xs ys a b c)
 
-pub pairwise-weak : (R S : Entry → Entry → Type 0) (P : Entry → Type 0) → ((x y : Entry) → P x → P y → R x y → S x y) → (xs : List Entry) → All P xs → Pairwise R xs → Pairwise S xs
+pub pairwise-weak : (R S : Entry → Entry → Type 0) (P : Entry → Type 0) → ((x y : Entry) → P x → P y → R x y → S x y)
+    → (xs : List Entry) → All P xs → Pairwise R xs → Pairwise S xs
 unfolding Pairwise All
 pairwise-weak R S P w [] a r = tt
 pairwise-weak R S P w (x ∷ xs) (p, a) (q, r) = (both w x p xs a q, pairwise-weak R S P w xs a r)
   where
-    both : ((x y : Entry) → P x → P y → R x y → S x y) → (x : Entry) → P x → (ys : List Entry) → All P ys → All (R x) ys → All (S x) ys
+    both : ((x y : Entry) → P x → P y → R x y → S x y) → (x : Entry) → P x → (ys : List Entry) → All P ys → All (R x) ys
+        → All (S x) ys
     both w x p [] a q = tt
     both w x p (y ∷ ys) (b, a) (c, q) = (w x y p b c, both w x p ys a q)
 
 -- AFTER CUT
-pub cut-other : (h k h' k' : ℕ) (es : List Entry) → ((e : Entry) → matches h k e ≡ true → matches h' k' e ≡ true → ⊥) → lookup h' k' (cut h k es) ≡ lookup h' k' es
+pub cut-other : (h k h' k' : ℕ) (es : List Entry) → ((e : Entry) → matches h k e ≡ true → matches h' k' e ≡ true → ⊥)
+    → lookup h' k' (cut h k es) ≡ lookup h' k' es
 cut-other h k h' k' [] ne = unfold cut in refl
 cut-other h k h' k' (e ∷ es) ne =
     split (matches h k e)
     (λ p. split (matches h' k' e) (λ q. absurd (ne e p q)) (λ q. rw (cut-hit h k e es p) (sym (lookup-miss h' k' e es q))))
     (λ p. split (matches h' k' e)
     (λ q. rw (cut-miss h k e es p) (lookup-hit h' k' e (cut h k es) q ∙ sym (lookup-hit h' k' e es q)))
-    (λ q. rw (cut-miss h k e es p) (lookup-miss h' k' e (cut h k es) q ∙ cut-other h k h' k' es ne ∙ sym (lookup-miss h' k' e es q))))
+    (λ q. rw (cut-miss h k e es p) (lookup-miss h' k' e (cut h k es) q ∙ cut-other h k h' k' es ne
+    ∙ sym (lookup-miss h' k' e es q))))
 
 pub cut-same : (h k : ℕ) (es : List Entry) → Once es → lookup h k (cut h k es) ≡ absent
 unfolding Pairwise
@@ -124,13 +123,15 @@ cut-same h k (e ∷ es) (a, o) =
 all-cut : (P : Entry → Type 0) (h k : ℕ) (es : List Entry) → All P es → All P (cut h k es)
 unfolding All
 all-cut P h k [] a = unfold cut in tt
-all-cut P h k (e ∷ es) (p, a) = split (matches h k e) (λ q. rw (cut-hit h k e es q) a) (λ q. rw (cut-miss h k e es q) (p, all-cut P h k es a))
+all-cut P h k (e ∷ es) (p, a) = split (matches h k e) (λ q. rw (cut-hit h k e es q) a)
+    (λ q. rw (cut-miss h k e es q) (p, all-cut P h k es a))
 
 pub cut-pairwise : (R : Entry → Entry → Type 0) (h k : ℕ) (es : List Entry) → Pairwise R es → Pairwise R (cut h k es)
 unfolding Pairwise
 cut-pairwise R h k [] o = unfold cut in tt
 cut-pairwise R h k (e ∷ es) (a, o) =
-    split (matches h k e) (λ p. rw (cut-hit h k e es p) o) (λ p. rw (cut-miss h k e es p) (all-cut (R e) h k es a, cut-pairwise R h k es o))
+    split (matches h k e) (λ p. rw (cut-hit h k e es p) o)
+    (λ p. rw (cut-miss h k e es p) (all-cut (R e) h k es a, cut-pairwise R h k es o))
 
 pub cut-length : (h k : ℕ) (es : List Entry) → length (cut h k es) + ifGot (lookup h k es) 1 0 ≡ length es
 unfolding ifGot

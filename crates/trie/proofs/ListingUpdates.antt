@@ -1,4 +1,5 @@
--- The listing after an update: insert comes to place, remove to cut. At a branch both touch only what stands at the hash's segment; the lower segments are earlier and the higher ones later.
+-- The listing after an update: insert comes to place, remove to cut. At a branch both touch only what stands at the hash's
+-- segment; the lower segments are earlier and the higher ones later.
 use mathlib.Core.Path.{_≡_, refl, sym, _∙_, ap}
 use mathlib.Core.Bool.{true, false}
 use mathlib.Core.Logic.{⊎-elim}
@@ -20,16 +21,20 @@ use Rattle.trie.proofs.Tests.{split, eq?}
 
 -- AFTER INSERT
 module _ (seg : ℕ → ℕ → ℕ) {X : Type 0} (n t : ℕ) (e : Entry) where
-  put-lists : (ks : Kids X) → Around seg t (seg t (e .hash)) ks → (m : Node X) → listingNode m ≡ place seg (suc n) t e (onFound [] listingNode (child (seg t (e .hash)) ks))
+  put-lists : (ks : Kids X) → Around seg t (seg t (e .hash)) ks → (m : Node X) → listingNode m
+      ≡ place seg (suc n) t e (onFound [] listingNode (child (seg t (e .hash)) ks))
       → listingKids (put (seg t (e .hash)) m ks) ≡ place seg (suc n) t e (listingKids ks)
   put-lists ks a m q =
       let old : List Entry = onFound [] listingNode (child (seg t (e .hash)) ks) in
       let later : All (λ x. earlier seg (suc n) t (x .hash) (e .hash) ≡ false) (a .high)
-      = all-weak (λ x. seg t (e .hash) < seg t (x .hash)) (λ x. earlier seg (suc n) t (x .hash) (e .hash) ≡ false) (λ x l. earlier-high seg n t (x .hash) (e .hash) l) (a .high) (a .higher) in
+      = all-weak (λ x. seg t (e .hash) < seg t (x .hash)) (λ x. earlier seg (suc n) t (x .hash) (e .hash) ≡ false)
+      (λ x l. earlier-high seg n t (x .hash) (e .hash) l) (a .high) (a .higher) in
       let sooner : All (λ x. earlier seg (suc n) t (x .hash) (e .hash) ≡ true) (a .low)
-      = all-weak (λ x. seg t (x .hash) < seg t (e .hash)) (λ x. earlier seg (suc n) t (x .hash) (e .hash) ≡ true) (λ x l. earlier-low seg n t (x .hash) (e .hash) l) (a .low) (a .lower) in
+      = all-weak (λ x. seg t (x .hash) < seg t (e .hash)) (λ x. earlier seg (suc n) t (x .hash) (e .hash) ≡ true)
+      (λ x l. earlier-low seg n t (x .hash) (e .hash) l) (a .low) (a .lower) in
       a .putting m ∙ ap (λ (l : List Entry). a .low ++ (l ++ a .high)) q
-      ∙ ap (λ (l : List Entry). a .low ++ l) (sym (place-left seg (suc n) t e old (a .high) later (high-unmatched seg t (e .hash) (e .key) a)))
+      ∙ ap (λ (l : List Entry). a .low ++ l) (sym
+      (place-left seg (suc n) t e old (a .high) later (high-unmatched seg t (e .hash) (e .key) a)))
       ∙ sym (place-skip seg (suc n) t e (a .low) (old ++ a .high) sooner) ∙ sym (ap (place seg (suc n) t e) (a .whole))
 
 module _ (seg : ℕ → ℕ → ℕ) (W : Entry → Type 0) {X : Type 0} (b : ℕ → X) (f : ℕ → X) (e : Entry) where
@@ -46,25 +51,39 @@ module _ (seg : ℕ → ℕ → ℕ) (W : Entry → Type 0) {X : Type 0} (b : �
     unfolding Lists
     lists-same p =
         let late : earlier seg (suc n) t (x .entry .hash) (e .hash) ≡ false = matched-late seg (suc n) t e (x .entry) p in
-        rw (insert-same seg b f n t e x [] p, one-lists x, one-lists (item (f 0) e), place-stop seg (suc n) t e (x .entry) [] late, cut-hit (e .hash) (e .key) (x .entry) [] p)
+        rw (
+          insert-same seg b f n t e x [] p,
+          one-lists x,
+          one-lists (item (f 0) e),
+          place-stop seg (suc n) t e (x .entry) []
+              late,
+          cut-hit (e .hash) (e .key) (x .entry) [] p,
+        )
 
-    lists-deep : matches (e .hash) (e .key) (x .entry) ≡ false → seg t (x .entry .hash) ≡ seg t (e .hash) → Lists n (suc t) (leaf (x ∷ [])) → Lists (suc n) t (leaf (x ∷ []))
+    lists-deep : matches (e .hash) (e .key) (x .entry) ≡ false → seg t (x .entry .hash) ≡ seg t (e .hash)
+        → Lists n (suc t) (leaf (x ∷ [])) → Lists (suc n) t (leaf (x ∷ []))
     unfolding Lists
     lists-deep p q ih =
-        ap listingNode (insert-deep seg b f n t e x [] p q) ∙ only (b t) (seg t (e .hash)) (insertNode seg b f n (suc t) e (leaf (x ∷ []))) ∙ ih
-        ∙ ap (place seg n (suc t) e) (one-lists x) ∙ sym (place-down seg n t e (x .entry ∷ []) (unfold All in (q, tt))) ∙ sym (ap (place seg (suc n) t e) (one-lists x))
+        ap listingNode (insert-deep seg b f n t e x [] p q)
+        ∙ only (b t) (seg t (e .hash)) (insertNode seg b f n (suc t) e (leaf (x ∷ []))) ∙ ih
+        ∙ ap (place seg n (suc t) e) (one-lists x) ∙ sym (place-down seg n t e (x .entry ∷ []) (unfold All in (q, tt)))
+        ∙ sym (ap (place seg (suc n) t e) (one-lists x))
       where
         only : (c : X) (s : ℕ) (m : Node X) → listingNode (branch c (kid s m none)) ≡ listingNode m
         only c s m = unfold listingNode in (append-nil (listingNode m))
 
-    lists-apart : matches (e .hash) (e .key) (x .entry) ≡ false → (seg t (x .entry .hash) ≡ seg t (e .hash) → ⊥) → Lists (suc n) t (leaf (x ∷ []))
+    lists-apart : matches (e .hash) (e .key) (x .entry) ≡ false → (seg t (x .entry .hash) ≡ seg t (e .hash) → ⊥)
+        → Lists (suc n) t (leaf (x ∷ []))
     unfolding Lists
     lists-apart p q =
         let ks : Kids X = kid (seg t (x .entry .hash)) (leaf (x ∷ [])) none in
-        let gap : child (seg t (e .hash)) ks ≡ missing = child-miss (seg t (e .hash)) (seg t (x .entry .hash)) (leaf (x ∷ [])) none q ∙ unfold child in refl in
+        let gap : child (seg t (e .hash)) ks ≡ missing
+        = child-miss (seg t (e .hash)) (seg t (x .entry .hash)) (leaf (x ∷ [])) none q ∙ unfold child in refl in
         ap listingNode (insert-apart seg b f n t e x [] p q) ∙ inside (b t) (put (seg t (e .hash)) (single f e) ks)
-        ∙ put-lists seg n t e ks (around seg t (seg t (e .hash)) ks (unfold Asc Above in tt) (unfold AllKids listingNode listingChain All in ((refl, tt), tt))) (single f e)
-        (one-lists (item (f 0) e) ∙ sym (place-none seg (suc n) t e) ∙ sym (ap (λ (o : Found X). place seg (suc n) t e (onFound [] listingNode o)) gap ∙ unfold onFound in refl))
+        ∙ put-lists seg n t e ks (around seg t (seg t (e .hash)) ks (unfold Asc Above in tt)
+        (unfold AllKids listingNode listingChain All in ((refl, tt), tt))) (single f e)
+        (one-lists (item (f 0) e) ∙ sym (place-none seg (suc n) t e)
+        ∙ sym (ap (λ (o : Found X). place seg (suc n) t e (onFound [] listingNode o)) gap ∙ unfold onFound in refl))
         ∙ ap (place seg (suc n) t e) (unfold listingNode in (append-nil (listingNode (leaf (x ∷ [])))))
       where
         inside : (c : X) (ks : Kids X) → listingNode (branch c ks) ≡ listingKids ks
@@ -78,7 +97,8 @@ module _ (seg : ℕ → ℕ → ℕ) (W : Entry → Type 0) {X : Type 0} (b : �
       let t : ℕ = length path in
       ap listingNode (insert-new seg b f n t e c ks r)
       ∙ put-lists seg n t e ks (canon-around seg W n path (seg t (e .hash)) ks asc all) (single f e)
-      (one-lists (item (f 0) e) ∙ sym (place-none seg (suc n) t e) ∙ sym (ap (λ (o : Found X). place seg (suc n) t e (onFound [] listingNode o)) r))
+      (one-lists (item (f 0) e) ∙ sym (place-none seg (suc n) t e)
+      ∙ sym (ap (λ (o : Found X). place seg (suc n) t e (onFound [] listingNode o)) r))
   lists-branch n path c ks asc all ih (found m) r =
       let t : ℕ = length path in
       let cm : Canon seg W Busy n (seg t (e .hash) ∷ path) m = all-child _ (seg t (e .hash)) ks m all r in
@@ -90,17 +110,20 @@ module _ (seg : ℕ → ℕ → ℕ) (W : Entry → Type 0) {X : Type 0} (b : �
   -- INSERT COMES TO PLACE
   insert-lists : (n : ℕ) (path : List ℕ) (Q : Kids X → Type 0) (m : Node X) → Canon seg W Q n path m → Lists n (length path) m
   unfolding Canon
-  insert-lists zero path Q (leaf xs) c = unfold Lists insertNode listingNode in (chain-insert f e xs ∙ sym (place-last seg (length path) e (listingChain xs)))
+  insert-lists zero path Q (leaf xs) c = unfold Lists insertNode listingNode in
+      (chain-insert f e xs ∙ sym (place-last seg (length path) e (listingChain xs)))
   insert-lists zero path Q (branch d ks) c = absurd c
   insert-lists (suc n) path Q (leaf []) c = absurd c
   insert-lists (suc n) path Q (leaf (x ∷ (y ∷ xs))) c = absurd c
   insert-lists (suc n) path Q (leaf (x ∷ [])) c =
       let t : ℕ = length path in
       split (matches (e .hash) (e .key) (x .entry)) (λ p. lists-same n t x p)
-      (λ p. ⊎-elim (λ q. lists-deep n t x p q (insert-lists n (seg t (e .hash) ∷ path) Busy (leaf (x ∷ [])) (single-down seg W n path x (seg t (e .hash)) q c)))
+      (λ p. ⊎-elim (λ q. lists-deep n t x p q (insert-lists n (seg t (e .hash) ∷ path) Busy (leaf (x ∷ []))
+      (single-down seg W n path x (seg t (e .hash)) q c)))
       (λ q. lists-apart n t x p q) (eq? (seg t (x .entry .hash)) (seg t (e .hash))))
   insert-lists (suc n) path Q (branch d ks) (q, asc, all) =
-      lists-branch n path d ks asc all (λ m c. insert-lists n (seg (length path) (e .hash) ∷ path) Busy m c) (child (seg (length path) (e .hash)) ks) refl
+      lists-branch n path d ks asc all (λ m c. insert-lists n (seg (length path) (e .hash) ∷ path) Busy m c)
+      (child (seg (length path) (e .hash)) ks) refl
 
   pub listing-insert : (n : ℕ) (path : List ℕ) (Q : Kids X → Type 0) (m : Node X) → Canon seg W Q n path m
       → listingNode (insertNode seg b f n (length path) e m) ≡ place seg n (length path) e (listingNode m)
@@ -114,7 +137,8 @@ press-lists (lone s x) = refl
 press-lists (stays ks) = refl
 
 module _ (seg : ℕ → ℕ → ℕ) (W : Entry → Type 0) {X : Type 0} (b : ℕ → X) (f : ℕ → X) (h k : ℕ) where
-  settle-lists : (n : ℕ) (path : List ℕ) (t : ℕ) (ks : Kids X) (a : Around seg t (seg t h) ks) (m m' : Node X) → Left seg W n path m m'
+  settle-lists : (n : ℕ) (path : List ℕ) (t : ℕ) (ks : Kids X) (a : Around seg t (seg t h) ks) (m m' : Node X)
+      → Left seg W n path m m'
       → listingKids (settle (seg t h) ks m') ≡ a .low ++ (listingNode m' ++ a .high)
   unfolding listingNode listingChain
   settle-lists n path t ks a m m' l =
@@ -122,7 +146,8 @@ module _ (seg : ℕ → ℕ → ℕ) (W : Entry → Type 0) {X : Type 0} (b : �
       (λ q small. a .taking ∙ ap (λ (z : Node X). a .low ++ (listingNode z ++ a .high)) (sym q)) (λ c. a .putting m') l
 
   removed-branch : (n : ℕ) (path : List ℕ) (c : X) (ks : Kids X) → Asc ks → AllKids (λ s m. Canon seg W Busy n (s ∷ path) m) ks
-      → ((m : Node X) → Canon seg W Busy n (seg (length path) h ∷ path) m → listingNode (removeNode seg b f n (suc (length path)) h k m) ≡ cut h k (listingNode m))
+      → ((m : Node X) → Canon seg W Busy n (seg (length path) h ∷ path) m
+      → listingNode (removeNode seg b f n (suc (length path)) h k m) ≡ cut h k (listingNode m))
       → (o : Found X) → child (seg (length path) h) ks ≡ o
       → listingNode (removeNode seg b f (suc n) (length path) h k (branch c ks)) ≡ cut h k (listingNode (branch c ks))
   unfolding listingNode onFound
@@ -130,7 +155,8 @@ module _ (seg : ℕ → ℕ → ℕ) (W : Entry → Type 0) {X : Type 0} (b : �
       let a : Around seg (length path) (seg (length path) h) ks = canon-around seg W n path (seg (length path) h) ks asc all in
       ap listingNode (remove-not seg b f n (length path) h k c ks r)
       ∙ a .whole ∙ ap (λ (o : Found X). a .low ++ (onFound [] listingNode o ++ a .high)) r
-      ∙ sym (cut-around seg (length path) h k a ∙ ap (λ (o : Found X). a .low ++ (cut h k (onFound [] listingNode o) ++ a .high)) r ∙ unfold cut in refl)
+      ∙ sym (cut-around seg (length path) h k a
+      ∙ ap (λ (o : Found X). a .low ++ (cut h k (onFound [] listingNode o) ++ a .high)) r ∙ unfold cut in refl)
   removed-branch n path c ks asc all ih (found m) r =
       let t : ℕ = length path in
       let a : Around seg t (seg t h) ks = canon-around seg W n path (seg t h) ks asc all in
@@ -149,4 +175,5 @@ module _ (seg : ℕ → ℕ → ℕ) (W : Entry → Type 0) {X : Type 0} (b : �
   listing-remove zero path Q (branch d ks) c = absurd c
   listing-remove (suc n) path Q (leaf xs) c = unfold removeNode listingNode in (chain-remove f 0 h k xs)
   listing-remove (suc n) path Q (branch d ks) (q, asc, all) =
-      removed-branch n path d ks asc all (λ m c. listing-remove n (seg (length path) h ∷ path) Busy m c) (child (seg (length path) h) ks) refl
+      removed-branch n path d ks asc all (λ m c. listing-remove n (seg (length path) h ∷ path) Busy m c)
+      (child (seg (length path) h) ks) refl

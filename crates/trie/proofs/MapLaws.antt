@@ -1,4 +1,5 @@
--- Maps: they stay canonical, and their listings, sizes and answers after insert, change and remove. All of it follows from the listing, where insert comes to place and remove to cut.
+-- Maps: they stay canonical, and their listings, sizes and answers after insert, change and remove. All of it follows from the
+-- listing, where insert comes to place and remove to cut.
 use mathlib.Core.Path.{_≡_, refl, sym, _∙_, ap, subst}
 use mathlib.Core.Bool.{true, false}
 use mathlib.Core.Logic.{_⊎_, inl, inr}
@@ -25,33 +26,40 @@ module _ (seg : ℕ → ℕ → ℕ) (d : ℕ) (W : Entry → Type 0) {X : Type 
 
   -- the shape of a removal
   pub data Removal (b f : ℕ → X) (h k : ℕ) : Map X → Map X → Type 0 where
-    taken-out : (n : Node X) (v : ℕ) → getNode seg (suc d) 0 h k n ≡ got v → Removal b f h k (root n) (tidy (removeNode seg b f (suc d) 0 h k n))
+    taken-out : (n : Node X) (v : ℕ) → getNode seg (suc d) 0 h k n ≡ got v
+        → Removal b f h k (root n) (tidy (removeNode seg b f (suc d) 0 h k n))
 
   pub removal : (b f : ℕ → X) (h k : ℕ) (m m' : Map X) → remove seg (suc d) b f h k m ≡ updated m' → Removal b f h k m m'
   unfolding remove ifGot
   removal b f h k empty m' q = let z : _≡_ {A = ℕ} 0 1 = cc in absurd (omega arith)
   removal b f h k (root n) m' q = go (getNode seg (suc d) 0 h k n) refl q
     where
-      go : (o : Got) → getNode seg (suc d) 0 h k n ≡ o → ifGot o (updated (tidy (removeNode seg b f (suc d) 0 h k n))) not-there ≡ updated m' → Removal b f h k (root n) m'
+      go : (o : Got) → getNode seg (suc d) 0 h k n ≡ o → ifGot o (updated (tidy (removeNode seg b f (suc d) 0 h k n))) not-there
+          ≡ updated m' → Removal b f h k (root n) m'
       go absent r q = let z : _≡_ {A = ℕ} 0 1 = cc in absurd (omega arith)
-      go (got v) r q = let e : tidy (removeNode seg b f (suc d) 0 h k n) ≡ m' = cc in subst (Removal b f h k (root n)) e (taken-out n v r)
+      go (got v) r q = let e : tidy (removeNode seg b f (suc d) 0 h k n) ≡ m'
+          = cc in subst (Removal b f h k (root n)) e (taken-out n v r)
 
   -- ANSWER 6, exactly where the key is not there
-  pub remove-there : (b f : ℕ → X) (h k : ℕ) (m : Map X) (v : ℕ) → get seg (suc d) h k m ≡ got v → (m' : Map X) × (remove seg (suc d) b f h k m ≡ updated m')
+  pub remove-there : (b f : ℕ → X) (h k : ℕ) (m : Map X) (v : ℕ) → get seg (suc d) h k m ≡ got v → (m' : Map X)
+      × (remove seg (suc d) b f h k m ≡ updated m')
   unfolding get remove ifGot
   remove-there b f h k empty v q = let z : _≡_ {A = ℕ} 0 1 = cc in absurd (omega arith)
   remove-there b f h k (root n) v q = (tidy (removeNode seg b f (suc d) 0 h k n), rw q)
 
-  pub remove-absent : (b f : ℕ → X) (h k : ℕ) (m : Map X) → get seg (suc d) h k m ≡ absent → remove seg (suc d) b f h k m ≡ not-there
+  pub remove-absent : (b f : ℕ → X) (h k : ℕ) (m : Map X) → get seg (suc d) h k m ≡ absent → remove seg (suc d) b f h k m
+      ≡ not-there
   unfolding get remove ifGot
   remove-absent b f h k empty q = refl
   remove-absent b f h k (root n) q = rw q
 
-  pub change-there : (b f : ℕ → X) (e : Entry) (m : Map X) (v : ℕ) → get seg (suc d) (e .hash) (e .key) m ≡ got v → change seg (suc d) b f e m ≡ updated (insert seg (suc d) b f e m)
+  pub change-there : (b f : ℕ → X) (e : Entry) (m : Map X) (v : ℕ) → get seg (suc d) (e .hash) (e .key) m ≡ got v
+      → change seg (suc d) b f e m ≡ updated (insert seg (suc d) b f e m)
   unfolding change ifGot
   change-there b f e m v q = rw q
 
-  pub change-absent : (b f : ℕ → X) (e : Entry) (m : Map X) → get seg (suc d) (e .hash) (e .key) m ≡ absent → change seg (suc d) b f e m ≡ not-there
+  pub change-absent : (b f : ℕ → X) (e : Entry) (m : Map X) → get seg (suc d) (e .hash) (e .key) m ≡ absent
+      → change seg (suc d) b f e m ≡ not-there
   unfolding change ifGot
   change-absent b f e m q = rw q
 
@@ -68,7 +76,8 @@ module _ (seg : ℕ → ℕ → ℕ) (d : ℕ) (W : Entry → Type 0) {X : Type 
 
   canonical-removal : (b f : ℕ → X) (h k : ℕ) {m m' : Map X} → Removal b f h k m m' → Good m → Good m'
   unfolding Canonical
-  canonical-removal b f h k (taken-out n v g) c = canonical-tidy (removeNode seg b f (suc d) 0 h k n) (root-remove seg W b f h k (suc d) [] n v c g)
+  canonical-removal b f h k (taken-out n v g) c
+      = canonical-tidy (removeNode seg b f (suc d) 0 h k n) (root-remove seg W b f h k (suc d) [] n v c g)
 
   pub canonical-remove : (b f : ℕ → X) (h k : ℕ) (m m' : Map X) → remove seg (suc d) b f h k m ≡ updated m' → Good m → Good m'
   canonical-remove b f h k m m' q c = canonical-removal b f h k (removal b f h k m m' q) c
@@ -85,16 +94,19 @@ module _ (seg : ℕ → ℕ → ℕ) (d : ℕ) (W : Entry → Type 0) {X : Type 
   unfolding listing tidy
   tidy-lists m = split (is-empty m) (λ q. rw q (sym (empty-lists m q))) (λ q. rw q)
 
-  pub map-lists-insert : (b f : ℕ → X) (e : Entry) (m : Map X) → Good m → listing (insert seg (suc d) b f e m) ≡ place seg (suc d) 0 e (listing m)
+  pub map-lists-insert : (b f : ℕ → X) (e : Entry) (m : Map X) → Good m → listing (insert seg (suc d) b f e m)
+      ≡ place seg (suc d) 0 e (listing m)
   unfolding Canonical listing insert
   map-lists-insert b f e empty c = unfold listingNode listingChain in (sym (place-none seg (suc d) 0 e))
   map-lists-insert b f e (root m) c = listing-insert seg W b f e (suc d) [] Some m c
 
   lists-removal : (b f : ℕ → X) (h k : ℕ) {m m' : Map X} → Removal b f h k m m' → Good m → listing m' ≡ cut h k (listing m)
   unfolding Canonical
-  lists-removal b f h k (taken-out n v g) c = tidy-lists (removeNode seg b f (suc d) 0 h k n) ∙ listing-remove seg W b f h k (suc d) [] Some n c ∙ unfold listing in refl
+  lists-removal b f h k (taken-out n v g) c = tidy-lists (removeNode seg b f (suc d) 0 h k n)
+      ∙ listing-remove seg W b f h k (suc d) [] Some n c ∙ unfold listing in refl
 
-  pub map-lists-remove : (b f : ℕ → X) (h k : ℕ) (m m' : Map X) → remove seg (suc d) b f h k m ≡ updated m' → Good m → listing m' ≡ cut h k (listing m)
+  pub map-lists-remove : (b f : ℕ → X) (h k : ℕ) (m m' : Map X) → remove seg (suc d) b f h k m ≡ updated m' → Good m → listing m'
+      ≡ cut h k (listing m)
   map-lists-remove b f h k m m' q c = lists-removal b f h k (removal b f h k m m' q) c
 
   pub map-listing-get : (m : Map X) → Good m → (h k : ℕ) → lookup h k (listing m) ≡ get seg (suc d) h k m
@@ -113,7 +125,8 @@ module _ (seg : ℕ → ℕ → ℕ) (d : ℕ) (W : Entry → Type 0) {X : Type 
   map-listing-ordered (root m) c = listing-ordered seg W (suc d) [] Some m c
 
   -- SIZE
-  pub size-insert : (b f : ℕ → X) (e : Entry) (m : Map X) → Good m → size (insert seg (suc d) b f e m) + ifGot (get seg (suc d) (e .hash) (e .key) m) 1 0 ≡ size m + 1
+  pub size-insert : (b f : ℕ → X) (e : Entry) (m : Map X) → Good m
+      → size (insert seg (suc d) b f e m) + ifGot (get seg (suc d) (e .hash) (e .key) m) 1 0 ≡ size m + 1
   unfolding size
   size-insert b f e m c =
       ap (λ (l : List Entry). length l + ifGot (get seg (suc d) (e .hash) (e .key) m) 1 0) (map-lists-insert b f e m c)
@@ -124,14 +137,17 @@ module _ (seg : ℕ → ℕ → ℕ) (d : ℕ) (W : Entry → Type 0) {X : Type 
   unfolding get
   got-removal b f h k (taken-out n v g) = (v, g)
 
-  pub size-remove : (b f : ℕ → X) (h k : ℕ) (m m' : Map X) → remove seg (suc d) b f h k m ≡ updated m' → Good m → size m' + 1 ≡ size m
+  pub size-remove : (b f : ℕ → X) (h k : ℕ) (m m' : Map X) → remove seg (suc d) b f h k m ≡ updated m' → Good m → size m' + 1
+      ≡ size m
   unfolding size
   size-remove b f h k m m' q c =
       let (v, g) = got-removal b f h k (removal b f h k m m' q) in
-      ap (λ (l : List Entry). length l + 1) (map-lists-remove b f h k m m' q c) ∙ cut-found h k v (listing m) (map-listing-get m c h k ∙ g)
+      ap (λ (l : List Entry). length l + 1) (map-lists-remove b f h k m m' q c)
+      ∙ cut-found h k v (listing m) (map-listing-get m c h k ∙ g)
 
   -- GET AFTER INSERT: the entry itself, and any other (hash, key)
-  pub get-insert-same : (b f : ℕ → X) (e : Entry) (m : Map X) → W e → Good m → get seg (suc d) (e .hash) (e .key) (insert seg (suc d) b f e m) ≡ got (e .value)
+  pub get-insert-same : (b f : ℕ → X) (e : Entry) (m : Map X) → W e → Good m
+      → get seg (suc d) (e .hash) (e .key) (insert seg (suc d) b f e m) ≡ got (e .value)
   get-insert-same b f e m w c =
       sym (map-listing-get (insert seg (suc d) b f e m) (canonical-insert b f e m w c) (e .hash) (e .key))
       ∙ ap (lookup (e .hash) (e .key)) (map-lists-insert b f e m c) ∙ place-same seg (suc d) 0 e (listing m)
@@ -143,12 +159,14 @@ module _ (seg : ℕ → ℕ → ℕ) (d : ℕ) (W : Entry → Type 0) {X : Type 
       ∙ ap (lookup h k) (map-lists-insert b f e m c) ∙ place-other seg (suc d) 0 e h k ne (listing m) ∙ map-listing-get m c h k
 
   -- GET AFTER REMOVE
-  pub get-remove-same : (b f : ℕ → X) (h k : ℕ) (m m' : Map X) → remove seg (suc d) b f h k m ≡ updated m' → Good m → get seg (suc d) h k m' ≡ absent
+  pub get-remove-same : (b f : ℕ → X) (h k : ℕ) (m m' : Map X) → remove seg (suc d) b f h k m ≡ updated m' → Good m
+      → get seg (suc d) h k m' ≡ absent
   get-remove-same b f h k m m' q c =
       sym (map-listing-get m' (canonical-remove b f h k m m' q c) h k) ∙ ap (lookup h k) (map-lists-remove b f h k m m' q c)
       ∙ cut-same h k (listing m) (map-listing-once m c)
 
-  pub get-remove-other : (b f : ℕ → X) (h k : ℕ) (m m' : Map X) (h' k' : ℕ) → ((e : Entry) → matches h k e ≡ true → matches h' k' e ≡ true → ⊥)
+  pub get-remove-other : (b f : ℕ → X) (h k : ℕ) (m m' : Map X) (h' k' : ℕ)
+      → ((e : Entry) → matches h k e ≡ true → matches h' k' e ≡ true → ⊥)
       → remove seg (suc d) b f h k m ≡ updated m' → Good m → get seg (suc d) h' k' m' ≡ get seg (suc d) h' k' m
   get-remove-other b f h k m m' h' k' ne q c =
       sym (map-listing-get m' (canonical-remove b f h k m m' q c) h' k') ∙ ap (lookup h' k') (map-lists-remove b f h k m m' q c)

@@ -1,12 +1,13 @@
 -- The nodes: what insert, remove and a hash's path come to in each case, so that nothing above unfolds their definitions.
-use mathlib.Core.Path.{_≡_, refl, _∙_}
+use mathlib.Core.Path.{_≡_, refl, _∙_, ap}
 use mathlib.Core.Bool.{true, false}
 use mathlib.Core.List.{List, [], _∷_}
 use Prim.Native.Nat.{ℕ, zero, suc}
 use borrow.Author.Tests.{eq-eqb, ne-eqb}
 use Rattle.trie.specs.Entry.{Entry, matches, absent}
 use Rattle.trie.specs.Trie.{branch, Item, leaf, single, chain, Node, Kids, none, kid, Found, missing, found, onFound, child, put, take-out, find, list-remove-first, insertNode, is-empty, is-single, settle, compress, removeNode}
-use Rattle.trie.proofs.KidsLaws.{child-hit, child-miss, child-put, child-put-other, child-take-other}
+use Rattle.trie.proofs.KidsLaws.{child-put-other, child-take-other}
+use Rattle.trie.proofs.Tests.{split}
 
 pub find-none : (X : Type 0) (h k : ℕ) → find {X = X} h k [] ≡ absent
 unfolding find
@@ -19,18 +20,21 @@ module _ (seg : ℕ → ℕ → ℕ) {X : Type 0} (b : ℕ → X) (f : ℕ → X
   insert-same p = rw p
 
   pub insert-deep : matches (e .hash) (e .key) (x .entry) ≡ false → seg t (x .entry .hash) ≡ seg t (e .hash)
-      → insertNode seg b f (suc n) t e (leaf (x ∷ xs)) ≡ branch (b t) (kid (seg t (e .hash)) (insertNode seg b f n (suc t) e (leaf (x ∷ xs))) none)
+      → insertNode seg b f (suc n) t e (leaf (x ∷ xs))
+      ≡ branch (b t) (kid (seg t (e .hash)) (insertNode seg b f n (suc t) e (leaf (x ∷ xs))) none)
   unfolding insertNode
   insert-deep p q = rw (p, eq-eqb (seg t (x .entry .hash)) (seg t (e .hash)) q)
 
   pub insert-apart : matches (e .hash) (e .key) (x .entry) ≡ false → (seg t (x .entry .hash) ≡ seg t (e .hash) → ⊥)
-      → insertNode seg b f (suc n) t e (leaf (x ∷ xs)) ≡ branch (b t) (put (seg t (e .hash)) (single f e) (kid (seg t (x .entry .hash)) (leaf (x ∷ xs)) none))
+      → insertNode seg b f (suc n) t e (leaf (x ∷ xs))
+      ≡ branch (b t) (put (seg t (e .hash)) (single f e) (kid (seg t (x .entry .hash)) (leaf (x ∷ xs)) none))
   unfolding insertNode
   insert-apart p q = rw (p, ne-eqb (seg t (x .entry .hash)) (seg t (e .hash)) q)
 
 -- insertNode at a branch, by cases
 module _ (seg : ℕ → ℕ → ℕ) {X : Type 0} (b : ℕ → X) (f : ℕ → X) (n t : ℕ) (e : Entry) (c : X) (ks : Kids X) where
-  pub insert-new : child (seg t (e .hash)) ks ≡ missing → insertNode seg b f (suc n) t e (branch c ks) ≡ branch (b t) (put (seg t (e .hash)) (single f e) ks)
+  pub insert-new : child (seg t (e .hash)) ks ≡ missing → insertNode seg b f (suc n) t e (branch c ks)
+      ≡ branch (b t) (put (seg t (e .hash)) (single f e) ks)
   unfolding insertNode onFound
   insert-new q = rw q
 
@@ -45,12 +49,14 @@ module _ (seg : ℕ → ℕ → ℕ) {X : Type 0} (b : ℕ → X) (f : ℕ → X
   unfolding removeNode onFound
   remove-not q = rw q
 
-  pub remove-at : (m : Node X) → child (seg t h) ks ≡ found m → removeNode seg b f (suc n) t h k (branch c ks) ≡ compress (b t) (settle (seg t h) ks (removeNode seg b f n (suc t) h k m))
+  pub remove-at : (m : Node X) → child (seg t h) ks ≡ found m → removeNode seg b f (suc n) t h k (branch c ks)
+      ≡ compress (b t) (settle (seg t h) ks (removeNode seg b f n (suc t) h k m))
   unfolding removeNode onFound
   remove-at m q = rw q
 
 module _ (seg : ℕ → ℕ → ℕ) {X : Type 0} (b : ℕ → X) (f : ℕ → X) where
-  pub remove-leaf : (n t h k : ℕ) (xs : List (Item X)) → removeNode seg b f n t h k (leaf xs) ≡ leaf (list-remove-first f 0 h k xs)
+  pub remove-leaf : (n t h k : ℕ) (xs : List (Item X)) → removeNode seg b f n t h k (leaf xs)
+      ≡ leaf (list-remove-first f 0 h k xs)
   unfolding removeNode
   remove-leaf zero t h k xs = refl
   remove-leaf (suc n) t h k xs = refl
@@ -91,7 +97,8 @@ module _ (seg : ℕ → ℕ → ℕ) {X : Type 0} where
   unfolding chain
   hop n t h c ks o e = rw e
 
-  pub hop-found : (n t h : ℕ) (c : X) (ks : Kids X) (m : Node X) → child (seg t h) ks ≡ found m → chain seg (suc n) t h (branch c ks) ≡ chain seg n (suc t) h m
+  pub hop-found : (n t h : ℕ) (c : X) (ks : Kids X) (m : Node X) → child (seg t h) ks ≡ found m
+      → chain seg (suc n) t h (branch c ks) ≡ chain seg n (suc t) h m
   unfolding onFound
   hop-found n t h c ks m e = hop n t h c ks (found m) e
 
@@ -99,21 +106,12 @@ module _ (seg : ℕ → ℕ → ℕ) {X : Type 0} where
   unfolding onFound
   hop-missing n t h c ks e = hop n t h c ks missing e
 
-  pub hop-put : (n t h : ℕ) (c : X) (m : Node X) (ks : Kids X) → chain seg (suc n) t h (branch c (put (seg t h) m ks)) ≡ chain seg n (suc t) h m
-  hop-put n t h c m ks = hop-found n t h c (put (seg t h) m ks) m (child-put (seg t h) m ks)
+-- OFF THE PATH every child stays the node that it was, names and all
+module _ {X : Type 0} (r s : ℕ) (ks : Kids X) (ne : s ≡ r → ⊥) where
+  pub put-off-path : (m : Node X) → child r (put s m ks) ≡ child r ks
+  put-off-path m = child-put-other r s m ks ne
 
-  pub hop-put-other : (n t h : ℕ) (c c' : X) (s : ℕ) (m : Node X) (ks : Kids X) → (s ≡ seg t h → ⊥)
-      → chain seg (suc n) t h (branch c (put s m ks)) ≡ chain seg (suc n) t h (branch c' ks)
-  unfolding chain
-  hop-put-other n t h c c' s m ks ne = rw (child-put-other (seg t h) s m ks ne)
-
-  pub hop-take-other : (n t h : ℕ) (c c' : X) (s : ℕ) (ks : Kids X) → (s ≡ seg t h → ⊥)
-      → chain seg (suc n) t h (branch c (take-out s ks)) ≡ chain seg (suc n) t h (branch c' ks)
-  unfolding chain
-  hop-take-other n t h c c' s ks ne = rw (child-take-other (seg t h) s ks ne)
-
-  pub hop-first : (n t h : ℕ) (c : X) (s : ℕ) (m : Node X) (ks : Kids X) → s ≡ seg t h → chain seg (suc n) t h (branch c (kid s m ks)) ≡ chain seg n (suc t) h m
-  hop-first n t h c s m ks q = hop-found n t h c (kid s m ks) m (child-hit (seg t h) s m ks q)
-
-  pub hop-only : (n t h : ℕ) (c : X) (s : ℕ) (m : Node X) → (s ≡ seg t h → ⊥) → chain seg (suc n) t h (branch c (kid s m none)) ≡ []
-  hop-only n t h c s m ne = hop-missing n t h c (kid s m none) (child-miss (seg t h) s m none ne ∙ unfold child in refl)
+  pub settle-off-path : (m : Node X) → child r (settle s ks m) ≡ child r ks
+  settle-off-path m =
+      split (is-empty m) (λ p. ap (child r) (settle-empty s ks m p) ∙ child-take-other r s ks ne)
+      (λ p. ap (child r) (settle-full s ks m p) ∙ child-put-other r s m ks ne)

@@ -35,15 +35,18 @@ module _ (seg : ℕ → ℕ → ℕ) where
 
   early-unmatched : (n t : ℕ) (e x : Entry) → earlier seg n t (x .hash) (e .hash) ≡ true → matches (e .hash) (e .key) x ≡ false
   early-unmatched n t e x q =
-      split (matches (e .hash) (e .key) x) (λ p. let z : _≡_ {A = ℕ} 0 1 = cc (matched-late n t e x p) in absurd (omega arith)) (λ p. p)
+      split (matches (e .hash) (e .key) x) (λ p. let z : _≡_ {A = ℕ} 0 1 = cc (matched-late n t e x p) in absurd (omega arith))
+      (λ p. p)
 
   -- PLACE
   module _ (n t : ℕ) (e : Entry) where
-    place-on : (x : Entry) (xs : List Entry) → earlier seg n t (x .hash) (e .hash) ≡ true → place seg n t e (x ∷ xs) ≡ x ∷ place seg n t e xs
+    place-on : (x : Entry) (xs : List Entry) → earlier seg n t (x .hash) (e .hash) ≡ true → place seg n t e (x ∷ xs)
+        ≡ x ∷ place seg n t e xs
     unfolding place
     place-on x xs p = rw p
 
-    pub place-stop : (x : Entry) (xs : List Entry) → earlier seg n t (x .hash) (e .hash) ≡ false → place seg n t e (x ∷ xs) ≡ e ∷ cut (e .hash) (e .key) (x ∷ xs)
+    pub place-stop : (x : Entry) (xs : List Entry) → earlier seg n t (x .hash) (e .hash) ≡ false → place seg n t e (x ∷ xs)
+        ≡ e ∷ cut (e .hash) (e .key) (x ∷ xs)
     unfolding place
     place-stop x xs p = rw p
 
@@ -52,27 +55,33 @@ module _ (seg : ℕ → ℕ → ℕ) where
     place-none = refl
 
     -- past the earlier ones
-    pub place-skip : (xs ys : List Entry) → All (λ x. earlier seg n t (x .hash) (e .hash) ≡ true) xs → place seg n t e (xs ++ ys) ≡ xs ++ place seg n t e ys
+    pub place-skip : (xs ys : List Entry) → All (λ x. earlier seg n t (x .hash) (e .hash) ≡ true) xs → place seg n t e (xs ++ ys)
+        ≡ xs ++ place seg n t e ys
     unfolding All
     place-skip [] ys a = refl
     place-skip (x ∷ xs) ys (p, a) = place-on x (xs ++ ys) p ∙ ap (λ (l : List Entry). x ∷ l) (place-skip xs ys a)
 
     -- what is later and does not match stays behind
-    pub place-left : (xs ys : List Entry) → All (λ x. earlier seg n t (x .hash) (e .hash) ≡ false) ys → Unmatched (e .hash) (e .key) ys
+    pub place-left : (xs ys : List Entry) → All (λ x. earlier seg n t (x .hash) (e .hash) ≡ false) ys
+        → Unmatched (e .hash) (e .key) ys
         → place seg n t e (xs ++ ys) ≡ place seg n t e xs ++ ys
     unfolding All
     place-left [] [] a u = rw place-none
-    place-left [] (y ∷ ys) (q, a) u = place-stop y ys q ∙ ap (λ (l : List Entry). e ∷ l) (cut-none (e .hash) (e .key) (y ∷ ys) u) ∙ sym (ap (λ (l : List Entry). l ++ (y ∷ ys)) place-none)
+    place-left [] (y ∷ ys) (q, a) u = place-stop y ys q ∙ ap (λ (l : List Entry). e ∷ l) (cut-none (e .hash) (e .key) (y ∷ ys) u)
+        ∙ sym (ap (λ (l : List Entry). l ++ (y ∷ ys)) place-none)
     place-left (x ∷ xs) ys a u =
         split (earlier seg n t (x .hash) (e .hash))
-        (λ p. place-on x (xs ++ ys) p ∙ ap (λ (l : List Entry). x ∷ l) (place-left xs ys a u) ∙ sym (ap (λ (l : List Entry). l ++ ys) (place-on x xs p)))
-        (λ p. place-stop x (xs ++ ys) p ∙ ap (λ (l : List Entry). e ∷ l) (cut-left (e .hash) (e .key) (x ∷ xs) ys u) ∙ sym (ap (λ (l : List Entry). l ++ ys) (place-stop x xs p)))
+        (λ p. place-on x (xs ++ ys) p ∙ ap (λ (l : List Entry). x ∷ l) (place-left xs ys a u)
+        ∙ sym (ap (λ (l : List Entry). l ++ ys) (place-on x xs p)))
+        (λ p. place-stop x (xs ++ ys) p ∙ ap (λ (l : List Entry). e ∷ l) (cut-left (e .hash) (e .key) (x ∷ xs) ys u)
+        ∙ sym (ap (λ (l : List Entry). l ++ ys) (place-stop x xs p)))
 
     pub place-same : (xs : List Entry) → lookup (e .hash) (e .key) (place seg n t e xs) ≡ got (e .value)
     place-same [] = rw place-none (lookup-hit (e .hash) (e .key) e [] (matches-self e))
     place-same (x ∷ xs) =
         split (earlier seg n t (x .hash) (e .hash))
-        (λ p. rw (place-on x xs p) (lookup-miss (e .hash) (e .key) x (place seg n t e xs) (early-unmatched n t e x p) ∙ place-same xs))
+        (λ p. rw (place-on x xs p) (lookup-miss (e .hash) (e .key) x (place seg n t e xs) (early-unmatched n t e x p)
+        ∙ place-same xs))
         (λ p. rw (place-stop x xs p) (lookup-hit (e .hash) (e .key) e (cut (e .hash) (e .key) (x ∷ xs)) (matches-self e)))
 
     pub place-other : (h k : ℕ) → matches h k e ≡ false → (xs : List Entry) → lookup h k (place seg n t e xs) ≡ lookup h k xs
@@ -93,7 +102,8 @@ module _ (seg : ℕ → ℕ → ℕ) where
     place-length [] = rw place-none (unfold lookup in refl)
     place-length (x ∷ xs) =
         split (earlier seg n t (x .hash) (e .hash))
-        (λ p. rw (place-on x xs p, lookup-miss (e .hash) (e .key) x xs (early-unmatched n t e x p)) (omega (arith, place-length xs)))
+        (λ p. rw (place-on x xs p, lookup-miss (e .hash) (e .key) x xs (early-unmatched n t e x p))
+        (omega (arith, place-length xs)))
         (λ p. rw (place-stop x xs p) (omega (arith, cut-length (e .hash) (e .key) (x ∷ xs))))
 
     -- a new entry, cut again
@@ -102,8 +112,10 @@ module _ (seg : ℕ → ℕ → ℕ) where
     place-cut [] u = rw place-none (cut-hit (e .hash) (e .key) e [] (matches-self e))
     place-cut (x ∷ xs) (p, u) =
         split (earlier seg n t (x .hash) (e .hash))
-        (λ q. rw (place-on x xs q) (cut-miss (e .hash) (e .key) x (place seg n t e xs) p ∙ ap (λ (l : List Entry). x ∷ l) (place-cut xs u)))
-        (λ q. rw (place-stop x xs q) (cut-hit (e .hash) (e .key) e (cut (e .hash) (e .key) (x ∷ xs)) (matches-self e) ∙ cut-none (e .hash) (e .key) (x ∷ xs) (p, u)))
+        (λ q. rw (place-on x xs q) (cut-miss (e .hash) (e .key) x (place seg n t e xs) p
+        ∙ ap (λ (l : List Entry). x ∷ l) (place-cut xs u)))
+        (λ q. rw (place-stop x xs q) (cut-hit (e .hash) (e .key) e (cut (e .hash) (e .key) (x ∷ xs)) (matches-self e)
+        ∙ cut-none (e .hash) (e .key) (x ∷ xs) (p, u)))
 
   -- with no depth left, the front
   pub place-last : (t : ℕ) (e : Entry) (xs : List Entry) → place seg zero t e xs ≡ e ∷ cut (e .hash) (e .key) xs
@@ -111,15 +123,18 @@ module _ (seg : ℕ → ℕ → ℕ) where
   place-last t e (x ∷ xs) = place-stop zero t e x xs (unfold earlier in refl)
 
   -- where all segments agree the next depth decides
-  pub place-down : (n t : ℕ) (e : Entry) (xs : List Entry) → All (λ x. seg t (x .hash) ≡ seg t (e .hash)) xs → place seg (suc n) t e xs ≡ place seg n (suc t) e xs
+  pub place-down : (n t : ℕ) (e : Entry) (xs : List Entry) → All (λ x. seg t (x .hash) ≡ seg t (e .hash)) xs
+      → place seg (suc n) t e xs ≡ place seg n (suc t) e xs
   unfolding All place
   place-down n t e [] a = place-none (suc n) t e ∙ sym (place-none n (suc t) e)
   place-down n t e (x ∷ xs) (q, a) = rw (earlier-level n t (x .hash) (e .hash) q, place-down n t e xs a)
 
   -- ORDERED: where all segments agree the next depth decides, and with no depth left any order will do
-  pub ordered-down : (n t s : ℕ) (xs : List Entry) → All (λ x. seg t (x .hash) ≡ s) xs → Ordered seg n (suc t) xs → Ordered seg (suc n) t xs
+  pub ordered-down : (n t s : ℕ) (xs : List Entry) → All (λ x. seg t (x .hash) ≡ s) xs → Ordered seg n (suc t) xs
+      → Ordered seg (suc n) t xs
   ordered-down n t s xs a o =
-      pairwise-weak (λ x y. earlier seg n (suc t) (y .hash) (x .hash) ≡ false) (λ x y. earlier seg (suc n) t (y .hash) (x .hash) ≡ false) (λ x. seg t (x .hash) ≡ s)
+      pairwise-weak (λ x y. earlier seg n (suc t) (y .hash) (x .hash) ≡ false)
+      (λ x y. earlier seg (suc n) t (y .hash) (x .hash) ≡ false) (λ x. seg t (x .hash) ≡ s)
       (λ x y p q r. earlier-level n t (y .hash) (x .hash) (q ∙ sym p) ∙ r) xs a o
 
   none-last : (t h : ℕ) (ys : List Entry) → All (λ y. earlier seg zero t (y .hash) h ≡ false) ys

@@ -16,7 +16,8 @@ use Rattle.trie.proofs.NodeLaws.{find-none, remove-not, remove-at, remo
 use Rattle.trie.proofs.Tests.{split}
 
 module _ (seg : ℕ → ℕ → ℕ) (W : Entry → Type 0) {X : Type 0} where
-  pub single-up : (n : ℕ) (path : List ℕ) (s : ℕ) (x : Item X) → Canon seg W Busy n (s ∷ path) (leaf (x ∷ [])) → (seg (length path) (x .entry .hash) ≡ s) × In seg W path (x .entry)
+  pub single-up : (n : ℕ) (path : List ℕ) (s : ℕ) (x : Item X) → Canon seg W Busy n (s ∷ path) (leaf (x ∷ []))
+      → (seg (length path) (x .entry .hash) ≡ s) × In seg W path (x .entry)
   unfolding Canon AllItems Under
   single-up zero path s x (a, (((q, u), w), y), d) = (q, (u, w))
   single-up (suc n) path s x ((q, u), w) = (q, (u, w))
@@ -41,7 +42,8 @@ module _ (seg : ℕ → ℕ → ℕ) (W : Entry → Type 0) {X : Type 0} where
   canon-full n path (branch d none) c = absurd (unfold Some in (canon-kids n path d none c))
   canon-full n path (branch d (kid s m ks)) c = refl
 
-  compress-canon : (n : ℕ) (path : List ℕ) (c : X) (ks : Kids X) → Some ks → Asc ks → AllKids (λ s m. Canon seg W Busy n (s ∷ path) m) ks
+  compress-canon : (n : ℕ) (path : List ℕ) (c : X) (ks : Kids X) → Some ks → Asc ks
+      → AllKids (λ s m. Canon seg W Busy n (s ∷ path) m) ks
       → Canon seg W Busy (suc n) path (compress c ks)
   unfolding Canon compress is-single Busy Some AllKids Big
   compress-canon n path c none some asc all = absurd some
@@ -57,22 +59,26 @@ module _ (seg : ℕ → ℕ → ℕ) (W : Entry → Type 0) {X : Type 0} where
 
   -- a child of which this is left is taken out, or put back
   pub settle-left : (A : Kids X → Type 0) (n : ℕ) (path : List ℕ) (s : ℕ) (ks : Kids X) (m m' : Node X)
-      → (m' ≡ leaf [] → (Big m → ⊥) → A (take-out s ks)) → (Canon seg W Busy n path m' → A (put s m' ks)) → Left n path m m' → A (settle s ks m')
+      → (m' ≡ leaf [] → (Big m → ⊥) → A (take-out s ks)) → (Canon seg W Busy n path m' → A (put s m' ks)) → Left n path m m'
+      → A (settle s ks m')
   unfolding is-empty
   settle-left A n path s ks m m' out back (inl (q, small)) = rw (q, settle-empty s ks (leaf []) refl) (out q small)
   settle-left A n path s ks m m' out back (inr c) = rw (settle-full s ks m' (canon-full n path m' c)) (back c)
 
-  module _ (n : ℕ) (path : List ℕ) (s : ℕ) (ks : Kids X) (asc : Asc ks) (all : AllKids (λ s m. Canon seg W Busy n (s ∷ path) m) ks) (m m' : Node X) (l : Left n (s ∷ path) m m') where
+  module _ (n : ℕ) (path : List ℕ) (s : ℕ) (ks : Kids X) (asc : Asc ks)
+      (all : AllKids (λ s m. Canon seg W Busy n (s ∷ path) m) ks) (m m' : Node X) (l : Left n (s ∷ path) m m') where
     settle-asc : Asc (settle s ks m')
     settle-asc = settle-left Asc n (s ∷ path) s ks m m' (λ q small. asc-take s ks asc) (λ c. asc-put s m' ks asc) l
 
     settle-all : AllKids (λ s m. Canon seg W Busy n (s ∷ path) m) (settle s ks m')
     settle-all =
         settle-left (AllKids (λ s m. Canon seg W Busy n (s ∷ path) m)) n (s ∷ path) s ks m m'
-        (λ q small. all-take (λ s m. Canon seg W Busy n (s ∷ path) m) s ks all) (λ c. all-put (λ s m. Canon seg W Busy n (s ∷ path) m) s m' ks c all) l
+        (λ q small. all-take (λ s m. Canon seg W Busy n (s ∷ path) m) s ks all)
+        (λ c. all-put (λ s m. Canon seg W Busy n (s ∷ path) m) s m' ks c all) l
 
     settle-some : Busy ks → child s ks ≡ found m → Some (settle s ks m')
-    settle-some busy r = settle-left Some n (s ∷ path) s ks m m' (λ q small. some-take s m ks busy r small) (λ c. some-put s m' ks) l
+    settle-some busy r = settle-left Some n (s ∷ path) s ks m m' (λ q small. some-take s m ks busy r small)
+        (λ c. some-put s m' ks) l
 
 module _ {X : Type 0} (f : ℕ → X) (j h k : ℕ) where
   -- only a single is emptied
@@ -84,18 +90,21 @@ module _ {X : Type 0} (f : ℕ → X) (j h k : ℕ) where
 
   pub removed-one : (x : Item X) → (list-remove-first f j h k (x ∷ []) ≡ []) ⊎ (list-remove-first f j h k (x ∷ []) ≡ x ∷ [])
   removed-one x =
-      split (matches h k (x .entry)) (λ p. inl (unfold list-remove-first ifGot in (rw (find-hit h k x [] p) (copied-hit f j h k x [] p))))
+      split (matches h k (x .entry)) (λ p. inl
+      (unfold list-remove-first ifGot in (rw (find-hit h k x [] p) (copied-hit f j h k x [] p))))
       (λ p. inr (removed-absent f j h k (x ∷ []) (find-miss h k x [] p ∙ find-none X h k)))
 
 module _ (seg : ℕ → ℕ → ℕ) (W : Entry → Type 0) {X : Type 0} (b : ℕ → X) (f : ℕ → X) (h k : ℕ) where
-  leaf-left : (path : List ℕ) (xs : List (Item X)) → Canon seg W Busy 0 path (leaf xs) → (ys : List (Item X)) → list-remove-first f 0 h k xs ≡ ys → Left seg W 0 path (leaf xs) (leaf ys)
+  leaf-left : (path : List ℕ) (xs : List (Item X)) → Canon seg W Busy 0 path (leaf xs) → (ys : List (Item X))
+      → list-remove-first f 0 h k xs ≡ ys → Left seg W 0 path (leaf xs) (leaf ys)
   unfolding Canon NonEmpty
   leaf-left path xs c [] q = inl (refl, emptied f 0 h k xs q)
   leaf-left path xs (a, all, dist) (y ∷ ys) q =
       inr (tt, rw q at (all-removed (In seg W path) f 0 h k xs all), rw q at (distinct-removed f 0 h k xs dist))
 
   branch-left : (n : ℕ) (path : List ℕ) (c : X) (ks : Kids X) → Canon seg W Busy (suc n) path (branch c ks)
-      → ((m : Node X) → Canon seg W Busy n (seg (length path) h ∷ path) m → Left seg W n (seg (length path) h ∷ path) m (removeNode seg b f n (suc (length path)) h k m))
+      → ((m : Node X) → Canon seg W Busy n (seg (length path) h ∷ path) m
+      → Left seg W n (seg (length path) h ∷ path) m (removeNode seg b f n (suc (length path)) h k m))
       → (o : Found X) → child (seg (length path) h) ks ≡ o
       → Canon seg W Busy (suc n) path (removeNode seg b f (suc n) (length path) h k (branch c ks))
   branch-left n path c ks a ih missing r = rw (remove-not seg b f n (length path) h k c ks r) a
@@ -111,9 +120,11 @@ module _ (seg : ℕ → ℕ → ℕ) (W : Entry → Type 0) {X : Type 0} (b : �
       (compress-canon seg W n path (b t) (settle s ks m') (settle-some seg W n path s ks asc all m m' l busy r)
       (settle-asc seg W n path s ks asc all m m' l) (settle-all seg W n path s ks asc all m m' l))
 
-  pub canon-remove : (n : ℕ) (path : List ℕ) (m : Node X) → Canon seg W Busy n path m → Left seg W n path m (removeNode seg b f n (length path) h k m)
+  pub canon-remove : (n : ℕ) (path : List ℕ) (m : Node X) → Canon seg W Busy n path m
+      → Left seg W n path m (removeNode seg b f n (length path) h k m)
   unfolding Big
-  canon-remove zero path (leaf xs) c = rw (remove-leaf seg b f 0 (length path) h k xs) (leaf-left path xs c (list-remove-first f 0 h k xs) refl)
+  canon-remove zero path (leaf xs) c = rw (remove-leaf seg b f 0 (length path) h k xs)
+      (leaf-left path xs c (list-remove-first f 0 h k xs) refl)
   canon-remove zero path (branch x ks) c = absurd (unfold Canon in c)
   canon-remove (suc n) path (leaf []) c = absurd (unfold Canon in c)
   canon-remove (suc n) path (leaf (x ∷ (y ∷ xs))) c = absurd (unfold Canon in c)
@@ -121,11 +132,13 @@ module _ (seg : ℕ → ℕ → ℕ) (W : Entry → Type 0) {X : Type 0} (b : �
       rw (remove-leaf seg b f (suc n) (length path) h k (x ∷ []))
       (⊎-elim (λ q. inl (ap leaf q, λ z. z)) (λ q. inr (rw q c)) (removed-one f 0 h k x))
   canon-remove (suc n) path (branch x ks) c =
-      inr (branch-left n path x ks c (λ m a. canon-remove n (seg (length path) h ∷ path) m a) (child (seg (length path) h) ks) refl)
+      inr (branch-left n path x ks c (λ m a. canon-remove n (seg (length path) h ∷ path) m a) (child (seg (length path) h) ks)
+      refl)
 
 -- AT A ROOT nothing is left, or a node that asks for company as those below do: a lone single is never left under a root branch
 module _ (seg : ℕ → ℕ → ℕ) (W : Entry → Type 0) {X : Type 0} where
-  canon-leaf : (n : ℕ) (path : List ℕ) (Q R : Kids X → Type 0) (xs : List (Item X)) → Canon seg W Q n path (leaf xs) → Canon seg W R n path (leaf xs)
+  canon-leaf : (n : ℕ) (path : List ℕ) (Q R : Kids X → Type 0) (xs : List (Item X)) → Canon seg W Q n path (leaf xs)
+      → Canon seg W R n path (leaf xs)
   unfolding Canon
   canon-leaf zero path Q R xs c = c
   canon-leaf (suc n) path Q R [] c = c
@@ -142,26 +155,35 @@ module _ (seg : ℕ → ℕ → ℕ) (W : Entry → Type 0) {X : Type 0} (b : �
   abbrev Rest : ℕ → List ℕ → Node X → Type 0
   Rest n path m = (is-empty m ≡ true) ⊎ Canon seg W Busy n path m
 
-  root-kids : (n : ℕ) (path : List ℕ) (c : X) (ks : Kids X) → Asc ks → AllKids (λ s m. Canon seg W Busy n (s ∷ path) m) ks → Rest (suc n) path (compress c ks)
+  root-kids : (n : ℕ) (path : List ℕ) (c : X) (ks : Kids X) → Asc ks → AllKids (λ s m. Canon seg W Busy n (s ∷ path) m) ks
+      → Rest (suc n) path (compress c ks)
   unfolding is-empty compress Some
   root-kids n path c none asc all = inl refl
   root-kids n path c (kid s m ks) asc all = inr (compress-canon seg W n path c (kid s m ks) tt asc all)
 
-  root-branch : (n : ℕ) (path : List ℕ) (c : X) (ks : Kids X) (v : ℕ) → Canon seg W Some (suc n) path (branch c ks) → getNode seg (suc n) (length path) h k (branch c ks) ≡ got v
-      → (o : Found X) → child (seg (length path) h) ks ≡ o → Rest (suc n) path (removeNode seg b f (suc n) (length path) h k (branch c ks))
-  root-branch n path c ks v a g missing r = let z : _≡_ {A = ℕ} 0 1 = cc (find-none X h k, hop-missing seg n (length path) h c ks r) in absurd (omega arith)
+  root-branch : (n : ℕ) (path : List ℕ) (c : X) (ks : Kids X) (v : ℕ) → Canon seg W Some (suc n) path (branch c ks)
+      → getNode seg (suc n) (length path) h k (branch c ks) ≡ got v
+      → (o : Found X) → child (seg (length path) h) ks ≡ o
+      → Rest (suc n) path (removeNode seg b f (suc n) (length path) h k (branch c ks))
+  root-branch n path c ks v a g missing r = let z : _≡_ {A = ℕ} 0 1
+      = cc (find-none X h k, hop-missing seg n (length path) h c ks r) in absurd (omega arith)
   root-branch n path c ks v a g (found m) r =
       let t : ℕ = length path in
       let asc : Asc ks = unfold Canon in (a .1) in
       let all : AllKids (λ s m. Canon seg W Busy n (s ∷ path) m) ks = unfold Canon in (a .2) in
       let m' : Node X = removeNode seg b f n (suc t) h k m in
-      let l : Left seg W n (seg t h ∷ path) m m' = canon-remove seg W b f h k n (seg t h ∷ path) m (all-child _ (seg t h) ks m all r) in
+      let l : Left seg W n (seg t h ∷ path) m m'
+      = canon-remove seg W b f h k n (seg t h ∷ path) m (all-child _ (seg t h) ks m all r) in
       rw (remove-at seg b f n t h k c ks m r)
-      (root-kids n path (b t) (settle (seg t h) ks m') (settle-asc seg W n path (seg t h) ks asc all m m' l) (settle-all seg W n path (seg t h) ks asc all m m' l))
+      (root-kids n path (b t) (settle (seg t h) ks m') (settle-asc seg W n path (seg t h) ks asc all m m' l)
+      (settle-all seg W n path (seg t h) ks asc all m m' l))
 
-  pub root-remove : (n : ℕ) (path : List ℕ) (m : Node X) (v : ℕ) → Canon seg W Some n path m → getNode seg n (length path) h k m ≡ got v
-      → (is-empty (removeNode seg b f n (length path) h k m) ≡ true) ⊎ Canon seg W Busy n path (removeNode seg b f n (length path) h k m)
+  pub root-remove : (n : ℕ) (path : List ℕ) (m : Node X) (v : ℕ) → Canon seg W Some n path m → getNode seg n (length path) h k m
+      ≡ got v
+      → (is-empty (removeNode seg b f n (length path) h k m) ≡ true)
+      ⊎ Canon seg W Busy n path (removeNode seg b f n (length path) h k m)
   root-remove n path (leaf xs) v c g =
-      ⊎-elim (λ q. inl (rw (q .0) (unfold is-empty in refl))) (λ a. inr a) (canon-remove seg W b f h k n path (leaf xs) (canon-leaf seg W n path Some Busy xs c))
+      ⊎-elim (λ q. inl (rw (q .0) (unfold is-empty in refl))) (λ a. inr a)
+      (canon-remove seg W b f h k n path (leaf xs) (canon-leaf seg W n path Some Busy xs c))
   root-remove zero path (branch x ks) v c g = absurd (unfold Canon in c)
   root-remove (suc n) path (branch x ks) v c g = root-branch n path x ks v c g (child (seg (length path) h) ks) refl

@@ -23,14 +23,17 @@ module _ (seg : ℕ → ℕ → ℕ) (W : Entry → Type 0) {X : Type 0} where
     pub settle-total : (c d : X) (s : ℕ) (m' l : Node X) (ks : Kids X) → Asc ks → child s ks ≡ found l → Left seg W n path l m'
         → total u v (branch c (settle s ks m')) + u d + total u v l ≡ total u v (branch d ks) + u c + total u v m'
     settle-total c d s m' l ks asc r left =
-        settle-left seg W (λ is. total u v (branch c is) + u d + total u v l ≡ total u v (branch d ks) + u c + total u v m') n path s ks l m'
-        (λ q small. let z : total u v m' ≡ 0 = ap (total u v) q ∙ unfold total in v0 in omega (arith, take-old u v c d s l ks r)) (λ a. put-old u v c d s m' l ks asc r) left
+        settle-left seg W (λ is. total u v (branch c is) + u d + total u v l ≡ total u v (branch d ks) + u c + total u v m') n
+        path s ks l m'
+        (λ q small. let z : total u v m' ≡ 0 = ap (total u v) q ∙ unfold total in v0 in omega (arith, take-old u v c d s l ks r))
+        (λ a. put-old u v c d s m' l ks asc r) left
 
   module _ (w : X → ℕ) (n t h : ℕ) (path : List ℕ) where
     pub settle-along : (c : X) (m' l : Node X) (ks : Kids X) → Asc ks → Left seg W n path l m'
         → along seg w (suc n) t h (branch c (settle (seg t h) ks m')) ≡ w c + along seg w n (suc t) h m'
     settle-along c m' l ks asc left =
-        settle-left seg W (λ is. along seg w (suc n) t h (branch c is) ≡ w c + along seg w n (suc t) h m') n path (seg t h) ks l m'
+        settle-left seg W (λ is. along seg w (suc n) t h (branch c is) ≡ w c + along seg w n (suc t) h m') n path (seg t h) ks l
+        m'
         (λ q small. let z : along seg w n (suc t) h m' ≡ 0 = ap (along seg w n (suc t) h) q ∙ along-leaf seg w n (suc t) h [] in
         omega (arith, along-missing seg w n t h c (take-out (seg t h) ks) (child-take (seg t h) ks asc)))
         (λ a. along-found seg w n t h c (put (seg t h) m' ks) m' (child-put (seg t h) m' ks)) left
@@ -43,8 +46,14 @@ module _ {X : Type 0} (v : List (Item X) → ℕ) where
 module _ (seg : ℕ → ℕ → ℕ) {X : Type 0} (w : X → ℕ) (n t h : ℕ) where
   only-along : (c : X) (s : ℕ) (x : Item X) → along seg w (suc n) t h (branch c (kid s (leaf (x ∷ [])) none)) ≡ w c
   only-along c s x =
-      ⊎-elim (λ q. omega (arith, along-found seg w n t h c (kid s (leaf (x ∷ [])) none) (leaf (x ∷ [])) (child-hit (seg t h) s (leaf (x ∷ [])) none q), along-leaf seg w n (suc t) h (x ∷ [])))
-      (λ q. along-missing seg w n t h c (kid s (leaf (x ∷ [])) none) (child-miss (seg t h) s (leaf (x ∷ [])) none q ∙ unfold child in refl)) (eq? s (seg t h))
+      ⊎-elim (λ q. omega (
+        arith,
+        along-found seg w n t h c (kid s (leaf (x ∷ [])) none) (leaf (x ∷ []))
+            (child-hit (seg t h) s (leaf (x ∷ [])) none q),
+        along-leaf seg w n (suc t) h (x ∷ []),
+      ))
+      (λ q. along-missing seg w n t h c (kid s (leaf (x ∷ [])) none)
+      (child-miss (seg t h) s (leaf (x ∷ [])) none q ∙ unfold child in refl)) (eq? s (seg t h))
 
   -- what compress gives up is on the path
   pub press-along : (c : X) (ks : Kids X) (m : Node X) → Pressed c ks m
@@ -57,7 +66,8 @@ module _ (seg : ℕ → ℕ → ℕ) {X : Type 0} (w : X → ℕ) (n t h : ℕ) 
 module _ (seg : ℕ → ℕ → ℕ) (W : Entry → Type 0) {X : Type 0} (b : ℕ → X) (f : ℕ → X) (h k : ℕ) (w : X → ℕ) where
   abbrev Entries : ℕ → ℕ → Node X → Type 0
   Entries n t m =
-      entrySum w (removeNode seg b f n t h k m) + gone w h k (chain seg n t h m) ≡ entrySum w m + news w f 0 (before h k (chain seg n t h m))
+      entrySum w (removeNode seg b f n t h k m) + gone w h k (chain seg n t h m)
+      ≡ entrySum w m + news w f 0 (before h k (chain seg n t h m))
 
   entries-leaf : (n t : ℕ) (xs : List (Item X)) → Entries n t (leaf xs)
   unfolding total
@@ -67,7 +77,13 @@ module _ (seg : ℕ → ℕ → ℕ) (W : Entry → Type 0) {X : Type 0} (b : �
       → ((m : Node X) → Canon seg W Busy n (seg (length path) h ∷ path) m → Entries n (suc (length path)) m)
       → (o : Found X) → child (seg (length path) h) ks ≡ o → Entries (suc n) (length path) (branch c ks)
   entries-branch n path c ks asc all ih missing r =
-      rw (remove-not seg b f n (length path) h k c ks r, hop-missing seg n (length path) h c ks r, gone-absent w h k [] (find-none X h k), before-absent w h k [] (find-none X h k))
+      rw (
+        remove-not seg b f n (length path) h k c ks r,
+        hop-missing seg n (length path) h c ks r,
+        gone-absent w h k []
+            (find-none X h k),
+        before-absent w h k [] (find-none X h k),
+      )
       (unfold news in refl)
   entries-branch n path c ks asc all ih (found m) r =
       let t : ℕ = length path in
@@ -76,26 +92,36 @@ module _ (seg : ℕ → ℕ → ℕ) (W : Entry → Type 0) {X : Type 0} (b : �
       rw (remove-at seg b f n t h k c ks m r, hop-found seg n t h c ks m r)
       (omega (
         arith,
-        press-total (cells w) (b t) (settle (seg t h) ks m') (compress (b t) (settle (seg t h) ks m')) (pressed (b t) (settle (seg t h) ks m')),
-        settle-total seg W (λ d. 0) (cells w) (unfold cells in refl) n (seg t h ∷ path) (b t) c (seg t h) m' m ks asc r (canon-remove seg W b f h k n (seg t h ∷ path) m cm),
+        press-total (cells w) (b t) (settle (seg t h) ks m') (compress (b t) (settle (seg t h) ks m'))
+            (pressed (b t) (settle (seg t h) ks m')),
+        settle-total seg W (λ d. 0) (cells w) (unfold cells in refl) n (seg t h ∷ path) (b t) c (seg t h) m' m ks asc r
+            (canon-remove seg W b f h k n (seg t h ∷ path) m cm),
         ih m cm,
       ))
 
   -- THE ENTRY CELLS OF REMOVE
-  pub remove-entries : (n : ℕ) (path : List ℕ) (Q : Kids X → Type 0) (m : Node X) → Canon seg W Q n path m → Entries n (length path) m
+  pub remove-entries : (n : ℕ) (path : List ℕ) (Q : Kids X → Type 0) (m : Node X) → Canon seg W Q n path m
+      → Entries n (length path) m
   unfolding Canon
   remove-entries zero path Q (leaf xs) c = entries-leaf zero (length path) xs
   remove-entries zero path Q (branch d ks) c = absurd c
   remove-entries (suc n) path Q (leaf xs) c = entries-leaf (suc n) (length path) xs
   remove-entries (suc n) path Q (branch d ks) (q, asc, all) =
-      entries-branch n path d ks asc all (λ m a. remove-entries n (seg (length path) h ∷ path) Busy m a) (child (seg (length path) h) ks) refl
+      entries-branch n path d ks asc all (λ m a. remove-entries n (seg (length path) h ∷ path) Busy m a)
+      (child (seg (length path) h) ks) refl
 
   abbrev Branches : ℕ → ℕ → Node X → Type 0
-  Branches n t m = branchSum w (removeNode seg b f n t h k m) + along seg w n t h m ≡ branchSum w m + along seg w n t h (removeNode seg b f n t h k m)
+  Branches n t m = branchSum w (removeNode seg b f n t h k m) + along seg w n t h m
+      ≡ branchSum w m + along seg w n t h (removeNode seg b f n t h k m)
 
   branches-leaf : (n t : ℕ) (xs : List (Item X)) → Branches n t (leaf xs)
   unfolding total
-  branches-leaf n t xs = rw (remove-leaf seg b f n t h k xs, along-leaf seg w n t h xs, along-leaf seg w n t h (list-remove-first f 0 h k xs))
+  branches-leaf n t xs = rw (
+    remove-leaf seg b f n t h k xs,
+    along-leaf seg w n t h xs,
+    along-leaf seg w n t h
+        (list-remove-first f 0 h k xs),
+  )
 
   branches-branch : (n : ℕ) (path : List ℕ) (c : X) (ks : Kids X) → Asc ks → AllKids (λ s m. Canon seg W Busy n (s ∷ path) m) ks
       → ((m : Node X) → Canon seg W Busy n (seg (length path) h ∷ path) m → Branches n (suc (length path)) m)
@@ -108,31 +134,38 @@ module _ (seg : ℕ → ℕ → ℕ) (W : Entry → Type 0) {X : Type 0} (b : �
       rw (remove-at seg b f n t h k c ks m r)
       (omega (
         arith,
-        press-along seg w n t h (b t) (settle (seg t h) ks m') (compress (b t) (settle (seg t h) ks m')) (pressed (b t) (settle (seg t h) ks m')),
-        settle-total seg W w (λ xs. 0) refl n (seg t h ∷ path) (b t) c (seg t h) m' m ks asc r (canon-remove seg W b f h k n (seg t h ∷ path) m cm),
+        press-along seg w n t h (b t) (settle (seg t h) ks m') (compress (b t) (settle (seg t h) ks m'))
+            (pressed (b t) (settle (seg t h) ks m')),
+        settle-total seg W w (λ xs. 0) refl n (seg t h ∷ path) (b t) c (seg t h) m' m ks asc r
+            (canon-remove seg W b f h k n (seg t h ∷ path) m cm),
         settle-along seg W w n t h (seg t h ∷ path) (b t) m' m ks asc (canon-remove seg W b f h k n (seg t h ∷ path) m cm),
         along-found seg w n t h c ks m r,
         ih m cm,
       ))
 
   -- THE BRANCH CELLS OF REMOVE
-  pub remove-branches : (n : ℕ) (path : List ℕ) (Q : Kids X → Type 0) (m : Node X) → Canon seg W Q n path m → Branches n (length path) m
+  pub remove-branches : (n : ℕ) (path : List ℕ) (Q : Kids X → Type 0) (m : Node X) → Canon seg W Q n path m
+      → Branches n (length path) m
   unfolding Canon
   remove-branches zero path Q (leaf xs) c = branches-leaf zero (length path) xs
   remove-branches zero path Q (branch d ks) c = absurd c
   remove-branches (suc n) path Q (leaf xs) c = branches-leaf (suc n) (length path) xs
   remove-branches (suc n) path Q (branch d ks) (q, asc, all) =
-      branches-branch n path d ks asc all (λ m a. remove-branches n (seg (length path) h ∷ path) Busy m a) (child (seg (length path) h) ks) refl
+      branches-branch n path d ks asc all (λ m a. remove-branches n (seg (length path) h ∷ path) Busy m a)
+      (child (seg (length path) h) ks) refl
 
-  fresh-press : (n t : ℕ) (ks : Kids X) (m : Node X) → Pressed (b t) ks m → Fresh seg b h w (suc n) t (branch (b t) ks) → Fresh seg b h w (suc n) t m
+  fresh-press : (n t : ℕ) (ks : Kids X) (m : Node X) → Pressed (b t) ks m → Fresh seg b h w (suc n) t (branch (b t) ks)
+      → Fresh seg b h w (suc n) t m
   fresh-press n t ks m (lone s x) i = fresh-leaf seg b h w (suc n) t (x ∷ [])
   fresh-press n t ks m (stays l) i = i
 
   fresh-branch : (n : ℕ) (path : List ℕ) (c : X) (ks : Kids X) → Asc ks → AllKids (λ s m. Canon seg W Busy n (s ∷ path) m) ks
-      → ((m : Node X) → Canon seg W Busy n (seg (length path) h ∷ path) m → (v : ℕ) → getNode seg n (suc (length path)) h k m ≡ got v
+      → ((m : Node X) → Canon seg W Busy n (seg (length path) h ∷ path) m → (v : ℕ) → getNode seg n (suc (length path)) h k m
+      ≡ got v
       → Fresh seg b h w n (suc (length path)) (removeNode seg b f n (suc (length path)) h k m))
       → (v : ℕ) → getNode seg (suc n) (length path) h k (branch c ks) ≡ got v
-      → (o : Found X) → child (seg (length path) h) ks ≡ o → Fresh seg b h w (suc n) (length path) (removeNode seg b f (suc n) (length path) h k (branch c ks))
+      → (o : Found X) → child (seg (length path) h) ks ≡ o
+      → Fresh seg b h w (suc n) (length path) (removeNode seg b f (suc n) (length path) h k (branch c ks))
   fresh-branch n path c ks asc all ih v g missing r =
       let z : _≡_ {A = ℕ} 0 1 = cc (find-none X h k, hop-missing seg n (length path) h c ks r) in absurd (omega arith)
   fresh-branch n path c ks asc all ih v g (found m) r =
@@ -144,14 +177,18 @@ module _ (seg : ℕ → ℕ → ℕ) (W : Entry → Type 0) {X : Type 0} (b : �
       (fresh-press n t (settle (seg t h) ks m') (compress (b t) (settle (seg t h) ks m')) (pressed (b t) (settle (seg t h) ks m'))
       (settle-along seg W w n t h (seg t h ∷ path) (b t) m' m ks asc l
       ∙ ap (λ (z : ℕ). w (b t) + z) (ih m cm v (sym (ap (find h k) (hop-found seg n t h c ks m r)) ∙ g))
-      ∙ sym (news-next seg w b t (along seg (λ c. 1) n (suc t) h m') _ (settle-along seg W (λ (c : X). 1) n t h (seg t h ∷ path) (b t) m' m ks asc l))))
+      ∙ sym (news-next seg w b t (along seg (λ c. 1) n (suc t) h m') _
+      (settle-along seg W (λ (c : X). 1) n t h (seg t h ∷ path) (b t) m' m ks asc l))))
 
   -- THE BRANCHES LEFT ON THE PATH are b t, b (t + 1), ..
-  pub remove-fresh : (n : ℕ) (path : List ℕ) (Q : Kids X → Type 0) (m : Node X) → Canon seg W Q n path m → (v : ℕ) → getNode seg n (length path) h k m ≡ got v
+  pub remove-fresh : (n : ℕ) (path : List ℕ) (Q : Kids X → Type 0) (m : Node X) → Canon seg W Q n path m → (v : ℕ)
+      → getNode seg n (length path) h k m ≡ got v
       → Fresh seg b h w n (length path) (removeNode seg b f n (length path) h k m)
   unfolding Canon
   remove-fresh zero path Q (leaf xs) c v g = unfold along news in refl
   remove-fresh zero path Q (branch d ks) c v g = absurd c
-  remove-fresh (suc n) path Q (leaf xs) c v g = rw (remove-leaf seg b f (suc n) (length path) h k xs) (fresh-leaf seg b h w (suc n) (length path) _)
+  remove-fresh (suc n) path Q (leaf xs) c v g
+      = rw (remove-leaf seg b f (suc n) (length path) h k xs) (fresh-leaf seg b h w (suc n) (length path) _)
   remove-fresh (suc n) path Q (branch d ks) (q, asc, all) v g =
-      fresh-branch n path d ks asc all (λ m a. remove-fresh n (seg (length path) h ∷ path) Busy m a) v g (child (seg (length path) h) ks) refl
+      fresh-branch n path d ks asc all (λ m a. remove-fresh n (seg (length path) h ∷ path) Busy m a) v g
+      (child (seg (length path) h) ks) refl

@@ -16,20 +16,24 @@ use Rattle.trie.proofs.Tests.{split, Tri, is-less, is-equal, is-more, t
 
 module _ {X : Type 0} (w : X → ℕ) (h k : ℕ) where
   -- chains
-  copied-cells : (f : ℕ → X) (j : ℕ) (xs : List (Item X)) → cells w (copied f j h k xs) + upto w h k xs ≡ cells w xs + news w f j (ahead h k xs)
+  copied-cells : (f : ℕ → X) (j : ℕ) (xs : List (Item X)) → cells w (copied f j h k xs) + upto w h k xs
+      ≡ cells w xs + news w f j (ahead h k xs)
   unfolding cells upto news ahead
   copied-cells f j [] = unfold copied in refl
   copied-cells f j (x ∷ xs) =
       split (matches h k (x .entry))
       (λ p. rw (copied-hit f j h k x xs p, p) (omega arith))
-      (λ p. let ih : cells w (copied f (suc j) h k xs) + upto w h k xs ≡ cells w xs + news w f (suc j) (ahead h k xs) = copied-cells f (suc j) xs in
+      (λ p. let ih : cells w (copied f (suc j) h k xs) + upto w h k xs ≡ cells w xs + news w f (suc j) (ahead h k xs)
+      = copied-cells f (suc j) xs in
       rw (copied-miss f j h k x xs p, p) (omega arith))
 
-  pub removed-cells : (f : ℕ → X) (j : ℕ) (xs : List (Item X)) → cells w (list-remove-first f j h k xs) + gone w h k xs ≡ cells w xs + news w f j (before h k xs)
+  pub removed-cells : (f : ℕ → X) (j : ℕ) (xs : List (Item X)) → cells w (list-remove-first f j h k xs) + gone w h k xs
+      ≡ cells w xs + news w f j (before h k xs)
   unfolding list-remove-first gone before ifGot
   removed-cells f j xs = go (find h k xs)
     where
-      go : (o : Got) → cells w (ifGot o (copied f j h k xs) xs) + ifGot o (upto w h k xs) 0 ≡ cells w xs + news w f j (ifGot o (ahead h k xs) 0)
+      go : (o : Got) → cells w (ifGot o (copied f j h k xs) xs) + ifGot o (upto w h k xs) 0
+          ≡ cells w xs + news w f j (ifGot o (ahead h k xs) 0)
       go absent = unfold news in refl
       go (got v) = copied-cells f j xs
 
@@ -55,14 +59,17 @@ module _ {X : Type 0} (u : X → ℕ) (v : List (Item X) → ℕ) where
   unfolding total
   total-only c s m = omega arith
 
-  totals-put : (s : ℕ) (n : Node X) (ks : Kids X) → Asc ks → totals u v (put s n ks) + onFound 0 (total u v) (child s ks) ≡ totals u v ks + total u v n
+  totals-put : (s : ℕ) (n : Node X) (ks : Kids X) → Asc ks → totals u v (put s n ks) + onFound 0 (total u v) (child s ks)
+      ≡ totals u v ks + total u v n
   unfolding total put child onFound Asc
   totals-put s n none a = omega arith
   totals-put s n (kid i m ks) a = go (totals-put s n ks (above-asc i ks a)) (tri s i)
     where
       go : totals u v (put s n ks) + onFound 0 (total u v) (child s ks) ≡ totals u v ks + total u v n → Tri s i
-          → totals u v (put s n (kid i m ks)) + onFound 0 (total u v) (child s (kid i m ks)) ≡ totals u v (kid i m ks) + total u v n
-      go ih (is-less q) = rw (put-less s i n m ks q, child-miss s i m ks (λ e. omega arith), child-above s i ks a (omega arith)) (omega arith)
+          → totals u v (put s n (kid i m ks)) + onFound 0 (total u v) (child s (kid i m ks))
+          ≡ totals u v (kid i m ks) + total u v n
+      go ih (is-less q) = rw (put-less s i n m ks q, child-miss s i m ks (λ e. omega arith), child-above s i ks a (omega arith))
+          (omega arith)
       go ih (is-equal e) = rw (put-hit s i n m ks (sym e), child-hit s i m ks (sym e)) (omega arith)
       go ih (is-more q) = rw (put-more s i n m ks q, child-miss s i m ks (λ e. omega arith)) (omega arith)
 
@@ -77,19 +84,23 @@ module _ {X : Type 0} (u : X → ℕ) (v : List (Item X) → ℕ) where
       go ih (inr e) = rw (take-miss s i m ks e, child-miss s i m ks e) (omega arith)
 
   -- put at a missing child, and at one that is there
-  pub put-new : (c d : X) (s : ℕ) (m : Node X) (ks : Kids X) → Asc ks → child s ks ≡ missing → total u v (branch c (put s m ks)) + u d ≡ total u v (branch d ks) + u c + total u v m
+  pub put-new : (c d : X) (s : ℕ) (m : Node X) (ks : Kids X) → Asc ks → child s ks ≡ missing
+      → total u v (branch c (put s m ks)) + u d ≡ total u v (branch d ks) + u c + total u v m
   unfolding total onFound
-  put-new c d s m ks a r = let z : totals u v (put s m ks) + 0 ≡ totals u v ks + total u v m = rw r at (totals-put s m ks a) in omega arith
+  put-new c d s m ks a r = let z : totals u v (put s m ks) + 0 ≡ totals u v ks + total u v m
+      = rw r at (totals-put s m ks a) in omega arith
 
   pub put-old : (c d : X) (s : ℕ) (m l : Node X) (ks : Kids X) → Asc ks → child s ks ≡ found l
       → total u v (branch c (put s m ks)) + u d + total u v l ≡ total u v (branch d ks) + u c + total u v m
   unfolding total onFound
-  put-old c d s m l ks a r = let z : totals u v (put s m ks) + total u v l ≡ totals u v ks + total u v m = rw r at (totals-put s m ks a) in omega arith
+  put-old c d s m l ks a r = let z : totals u v (put s m ks) + total u v l ≡ totals u v ks + total u v m
+      = rw r at (totals-put s m ks a) in omega arith
 
   pub take-old : (c d : X) (s : ℕ) (l : Node X) (ks : Kids X) → child s ks ≡ found l
       → total u v (branch c (take-out s ks)) + u d + total u v l ≡ total u v (branch d ks) + u c
   unfolding total onFound
-  take-old c d s l ks r = let z : totals u v (take-out s ks) + total u v l ≡ totals u v ks = rw r at (totals-take s ks) in omega arith
+  take-old c d s l ks r = let z : totals u v (take-out s ks) + total u v l ≡ totals u v ks
+      = rw r at (totals-take s ks) in omega arith
 
 module _ {X : Type 0} (w : X → ℕ) (h k : ℕ) where
   upto-within : (xs : List (Item X)) → upto w h k xs ≤ cells w xs
@@ -116,7 +127,8 @@ module _ {X : Type 0} (u : X → ℕ) (v : List (Item X) → ℕ) where
   unfolding total child
   within s none m r = let z : _≡_ {A = ℕ} 0 1 = cc in absurd (omega arith)
   within s (kid i l ks) m r =
-      split-eq (λ q. let e : found l ≡ found m = sym (child-hit s i l ks q) ∙ r in let e' : l ≡ m = cc in omega (arith, ap (total u v) e'))
+      split-eq (λ q. let e : found l ≡ found m = sym (child-hit s i l ks q) ∙ r in let e' : l ≡ m
+      = cc in omega (arith, ap (total u v) e'))
       (λ q. omega (arith, within s ks m (sym (child-miss s i l ks q) ∙ r)))
     where
       split-eq : {A : Type 0} → (i ≡ s → A) → ((i ≡ s → ⊥) → A) → A

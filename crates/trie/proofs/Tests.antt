@@ -20,7 +20,8 @@ pub data Tri (a b : ℕ) : Type 0 where
   is-more : b < a → Tri a b
 
 pub tri : (a b : ℕ) → Tri a b
-tri a b = split (eqb a b) (λ e. is-equal (eqb-true a b e)) (λ ne. split (ltb a b) (λ l. is-less (ltb-true a b l)) (λ nl. is-more (go ne nl)))
+tri a b = split (eqb a b) (λ e. is-equal (eqb-true a b e))
+    (λ ne. split (ltb a b) (λ l. is-less (ltb-true a b l)) (λ nl. is-more (go ne nl)))
   where
     go : eqb a b ≡ false → ltb a b ≡ false → b < a
     go ne nl = let h : a ≡ b → ⊥ = eqb-false a b ne in omega (arith, ltb-false a b nl)
@@ -41,8 +42,9 @@ pub matches-self : (e : Entry) → matches (e .hash) (e .key) e ≡ true
 unfolding matches
 matches-self e = rw (eq-eqb (e .hash) (e .hash) refl, eq-eqb (e .key) (e .key) refl)
 
--- two listingChain with the matches key meet the matches tests
-pub matches-alike : (h k : ℕ) (e : Entry) → matches h k e ≡ true → (h' k' : ℕ) (d : Entry) → matches h k d ≡ true → matches h' k' d ≡ matches h' k' e
+-- two entries with the same key meet the same tests
+pub matches-alike : (h k : ℕ) (e : Entry) → matches h k e ≡ true → (h' k' : ℕ) (d : Entry) → matches h k d ≡ true
+    → matches h' k' d ≡ matches h' k' e
 unfolding matches
 matches-alike h k e p h' k' d q =
     let a : (e .hash ≡ h) × (e .key ≡ k) = matches-true h k e p in

@@ -1,4 +1,5 @@
--- "A trie that the rules above can build" (document 01, SOUND): the tries that inserts and removes make of the empty one. Names play no part.
+-- "A trie that the rules above can build" (document 01, SOUND): the tries that inserts and removes make of the empty one.
+-- Names play no part.
 use mathlib.Core.Path.{_≡_}
 use Prim.Native.Nat.{ℕ}
 use Rattle.trie.specs.Entry.{Entry, Word64}

@@ -1,4 +1,5 @@
--- The structural form of "a trie that the rules above can build" (document 01, SOUND): what every path, branch and chain of such a trie looks like.
+-- The structural form of "a trie that the rules above can build" (document 01, SOUND): what every path, branch and chain of
+-- such a trie looks like.
 use mathlib.Core.Path.{_≡_}
 use mathlib.Core.List.{List, [], _∷_}
 use Prim.Native.Nat.{ℕ, zero, suc, _<_}

@@ -34,12 +34,14 @@ module _ (seg : ℕ → ℕ → ℕ) (d : ℕ) where
   standBefore h k empty = 0
   standBefore h k (root m) = before h k (chain seg d 0 h m)
 
-  -- "Insert: one branch cell for each branch on the new entry's path in the result, one cell for the entry, and one for each chain entry that stood before a replaced one."
+  -- "Insert: one branch cell for each branch on the new entry's path in the result, one cell for the entry, and one for each
+  -- chain entry that stood before a replaced one."
   unfoldable pub insertTakes : {X : Type 0} → (b f : ℕ → X) → Entry → Map X → Taken
   insertTakes b f e m =
       record { branches = branchesOn (e .hash) (insert seg d b f e m); entries = 1 + standBefore (e .hash) (e .key) m }
 
-  -- "Remove: one branch cell for each branch left on the path in the result, and one entry cell for each chain entry that stood before the removed one; an empty result takes none."
+  -- "Remove: one branch cell for each branch left on the path in the result, and one entry cell for each chain entry that
+  -- stood before the removed one; an empty result takes none."
   unfoldable pub leftTakes : {X : Type 0} → ℕ → ℕ → Map X → Updated X → Taken
   leftTakes h k m not-there = record { branches = 0; entries = 0 }
   leftTakes h k m (updated m') = record { branches = branchesOn h m'; entries = standBefore h k m }

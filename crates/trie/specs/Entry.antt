@@ -1,4 +1,5 @@
--- Entries. Document 01, "The crate's part and ours": keys, values and hashes are 64-bit unsigned numbers; two entries are the same key only if hash and key both agree.
+-- Entries. Document 01, "The crate's part and ours": keys, values and hashes are 64-bit unsigned numbers; two entries are the
+-- same key only if hash and key both agree.
 use mathlib.Core.Bool.{Bool, false, cond}
 use Prim.Native.Nat.{ℕ, _^_, _<_}
 use lib.Dec.{eqb}

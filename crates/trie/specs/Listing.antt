@@ -33,7 +33,8 @@ cut h k (e ∷ es) = cond (matches h k e) es (e ∷ cut h k es)
 abbrev pub SameSet : List Entry → List Entry → Type 0
 SameSet xs ys = (e : Entry) → List·Memᴰ e xs ↔ List·Memᴰ e ys
 
--- LISTING ORDER. A hash is earlier than another if its segment is the lower one at the first depth at which the two differ; n depths are left, from depth t on.
+-- LISTING ORDER. A hash is earlier than another if its segment is the lower one at the first depth at which the two differ; n
+-- depths are left, from depth t on.
 module _ (seg : ℕ → ℕ → ℕ) where
   unfoldable pub earlier : ℕ → ℕ → ℕ → ℕ → Bool
   earlier zero t h h' = false

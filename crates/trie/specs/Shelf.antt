@@ -1,15 +1,17 @@
--- Document 01, "The shelf table": K1 to K12 with the cells taken, the chains, roots and listings that it shows, and the cells in use, as one statement. The step to K s names its new cells 100·s, 100·s + 1, .., so that the table also shows which cells are shared.
+-- Document 01, "The shelf table": K1 to K12 with the cells taken, the chains, roots and listings that it shows, and the cells
+-- in use, as one statement. The step to K s names its new cells 100·s, 100·s + 1, .., so that the table also shows which cells
+-- are shared.
 use mathlib.Core.Path.{_≡_, refl}
 use mathlib.Core.Bool.{Bool, true, false, cond}
 use mathlib.Core.Logic.{inl, inr}
 use mathlib.Core.List.{List, [], _∷_, _++_}
 use Prim.Native.Nat.{ℕ, suc, _+_, _*_, _^_}
 use lib.Dec.{eqb}
-use Rattle.segments.specs.Segments.{Row, row, table, In, segment}
+use Rattle.segments.specs.Segments.{Row, row, table, Listed, segment}
+use Rattle.trie.specs.Cells.{Taken, before, ahead, along, branchesOn, standBefore, insertTakes, leftTakes, removeTakes}
 use Rattle.trie.specs.Entry.{Entry, matches, ifGot}
-use Rattle.trie.specs.Trie.{Item, item, Node, leaf, branch, Kids, none, kid, Map, empty, root, onFound, child, put, take-out, find, copied, list-remove-first, push-front, chain, insertNode, is-empty, is-single, settle, compress, removeNode, listingChain, listingNode, listing, Updated, not-there, updated, tidy, insert, remove}
-use Rattle.trie.specs.Cells.{Taken, ahead, before, along, branchesOn, standBefore, insertTakes, leftTakes, removeTakes}
 use Rattle.trie.specs.Names.{renameItems, renameNode, rename, forget}
+use Rattle.trie.specs.Trie.{branch, Item, leaf, chain, Node, Kids, none, kid, empty, root, Map, onFound, child, put, take-out, item, find, copied, list-remove-first, push-front, insertNode, is-empty, is-single, settle, compress, removeNode, listingChain, listingNode, listing, remove, Updated, not-there, updated, tidy, insert}
 
 -- THE STEPS, at a row of the table of degrees
 abbrev names : ℕ → ℕ → ℕ
@@ -77,7 +79,8 @@ distinct (x ∷ xs) = cond (among x xs) (distinct xs) (suc (distinct xs))
 abbrev inUse : List (Map ℕ) → Taken
 inUse ms = taken (distinct (reached branchCells ms)) (distinct (reached entryCells ms))
 
--- THE ENTRIES. "A hash 26 hex, key 1, value 10; B 16, 2, 20; C 42, 3, 30; D and E hash 7000000000000008, keys 4, 5, values 40, 50."
+-- THE ENTRIES. "A hash 26 hex, key 1, value 10; B 16, 2, 20; C 42, 3, 30; D and E hash 7000000000000008, keys 4, 5, values 40,
+-- 50."
 abbrev entry : ℕ → ℕ → ℕ → Entry
 entry h k v = record { hash = h; key = k; value = v }
 
@@ -150,7 +153,7 @@ abbrev KF : Map ℕ
 KF = ins d16 10 F K5
 
 pub record ShelfTable : Type 0 where
-  pub rows : In table d16 × In table d64 × In table d8
+  pub rows : Listed table d16 × Listed table d64 × Listed table d8
   pub k1 : insTakes d16 A empty ≡ taken 1 1
   pub k1-root : K1 ≡ root (branch 100 (kid 6 (leaf (item 100 A ∷ [])) none))
   pub k2 : insTakes d16 B K1 ≡ taken 2 1
@@ -183,7 +186,7 @@ pub record ShelfTable : Type 0 where
   pub k1-less : rem d16 10 0x26 1 K1 ≡ updated empty
 
 pub shelf-table : ShelfTable
-unfolding table In segment matches ifGot onFound child put take-out find copied list-remove-first push-front chain insertNode is-empty is-single settle compress removeNode listingChain listingNode listing tidy insert remove ahead before along branchesOn standBefore insertTakes leftTakes rename renameNode renameItems resultOf chainAt cellsOf branchCells entryCells reached among distinct
+unfolding table Listed segment matches ifGot onFound child put take-out find copied list-remove-first push-front chain insertNode is-empty is-single settle compress removeNode listingChain listingNode listing tidy insert remove ahead before along branchesOn standBefore insertTakes leftTakes rename renameNode renameItems resultOf chainAt cellsOf branchCells entryCells reached among distinct
 shelf-table =
     record {
       rows = (inr (inr (inr (inl refl))), inr (inr (inr (inr (inr (inl refl))))), inr (inr (inl refl)));

@@ -1,5 +1,8 @@
 -- Document 01, "The trie", restated; what stands in quotes is document 01's.
--- Each cell carries a name, of any type X. With X = Unit this is document 01's trie; with X = ℕ a name is the number of a cell in an arena. An update takes new names from a supply: the branch that it makes at depth t is named b t, the entries f 0, f 1, and so on. Whatever is shared keeps its name, so one definition says what an update shows, what it shares and what it takes.
+-- Each cell carries a name, of any type X. With X = Unit this is document 01's trie; with X = ℕ a name is the number of a cell
+-- in an arena. An update takes new names from a supply: the branch that it makes at depth t is named b t, the entries f 0, f
+-- 1, and so on. Whatever is shared keeps its name, so one definition says what an update shows, what it shares and what it
+-- takes.
 use mathlib.Core.Bool.{Bool, true, false, cond}
 use mathlib.Core.List.{List, [], _∷_, _++_}
 use Prim.Native.Nat.{ℕ, zero, suc}
@@ -67,11 +70,13 @@ copied f j h k (x ∷ xs) = cond (matches h k (x .entry)) xs (item (f j) (x .ent
 unfoldable pub list-remove-first : {X : Type 0} → (ℕ → X) → ℕ → ℕ → ℕ → List (Item X) → List (Item X)
 list-remove-first f j h k xs = ifGot (find h k xs) (copied f j h k xs) xs
 
--- "At depth D a new key goes to the chain's front. A key already in the chain is replaced AND moved to the front; the others keep their order."
+-- "At depth D a new key goes to the chain's front. A key already in the chain is replaced AND moved to the front; the others
+-- keep their order."
 unfoldable pub push-front : {X : Type 0} → (ℕ → X) → Entry → List (Item X) → List (Item X)
 push-front f e xs = item (f 0) e ∷ list-remove-first f 1 (e .hash) (e .key) xs
 
--- PATHS. From here on seg t h is the segment of the hash h at depth t. The first number of a function on nodes is the depths left and the second the depth, so that depth D is where none is left.
+-- PATHS. From here on seg t h is the segment of the hash h at depth t. The first number of a function on nodes is the depths
+-- left and the second the depth, so that depth D is where none is left.
 module _ (seg : ℕ → ℕ → ℕ) where
   -- the chain at the end of a hash's path
   unfoldable pub chain : {X : Type 0} → ℕ → ℕ → ℕ → Node X → List (Item X)
@@ -83,7 +88,9 @@ module _ (seg : ℕ → ℕ → ℕ) where
   abbrev pub getNode : {X : Type 0} → ℕ → ℕ → ℕ → ℕ → Node X → Got
   getNode n t h k m = find h k (chain n t h m)
 
--- INSERT. "Insert at a missing child places a single entry there. Insert at a single with the same hash and key replaces it. Above depth D, at another key, branches are made until the segments differ; the old entry is shared. If all segments agree, a chain stands at depth D, the new entry in front."
+-- INSERT. "Insert at a missing child places a single entry there. Insert at a single with the same hash and key replaces it.
+-- Above depth D, at another key, branches are made until the segments differ; the old entry is shared. If all segments agree,
+-- a chain stands at depth D, the new entry in front."
 module _ (seg : ℕ → ℕ → ℕ) {X : Type 0} (b : ℕ → X) (f : ℕ → X) where
   unfoldable pub insertNode : ℕ → ℕ → Entry → Node X → Node X
   insertNode zero t e (leaf xs) = leaf (push-front f e xs)
@@ -97,7 +104,9 @@ module _ (seg : ℕ → ℕ → ℕ) {X : Type 0} (b : ℕ → X) (f : ℕ → X
   insertNode (suc n) t e (branch c ks) =
       branch (b t) (put (seg t (e .hash)) (onFound (single f e) (insertNode n (suc t) e) (child (seg t (e .hash)) ks)) ks)
 
--- REMOVE. "Remove takes an entry out; a chain of two becomes a single. An emptied child leaves its branch. Then, upwards, each branch on the path whose only child is a single becomes that single, root included. A branch whose only child is a branch or chain stays."
+-- REMOVE. "Remove takes an entry out; a chain of two becomes a single. An emptied child leaves its branch. Then, upwards, each
+-- branch on the path whose only child is a single becomes that single, root included. A branch whose only child is a branch or
+-- chain stays."
 unfoldable pub is-empty : {X : Type 0} → Node X → Bool
 is-empty (leaf []) = true
 is-empty (leaf (x ∷ xs)) = false
@@ -184,6 +193,7 @@ module _ (seg : ℕ → ℕ → ℕ) (d : ℕ) where
     unfoldable pub change : Entry → Map X → Updated X
     change e m = ifGot (get (e .hash) (e .key) m) (updated (insert e m)) not-there
 
-  -- "Two editions are equal when sizes agree and each entry of one is in the other with the same value. Chain order doesn't matter."
+  -- "Two editions are equal when sizes agree and each entry of one is in the other with the same value. Chain order doesn't
+  -- matter."
   unfoldable pub equal : {X Y : Type 0} → Map X → Map Y → Bool
   equal m n = cond (eqb (size m) (size n)) (every (λ e. answers (get (e .hash) (e .key) n) (e .value)) (listing m)) false

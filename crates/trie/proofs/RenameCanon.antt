@@ -1,4 +1,4 @@
--- Names do not matter for what is canonical.
+-- Names play no part in what is canonical.
 use mathlib.Core.Path.{sym, _∙_}
 use mathlib.Core.Logic.{_↔_}
 use mathlib.Core.List.{List, [], _∷_}
@@ -7,7 +7,7 @@ use Rattle.trie.specs.Canon.{Above, Asc, AllKids, Some, Big, Busy, AllIt
 use Rattle.trie.specs.Entry.{Entry}
 use Rattle.trie.specs.Names.{renameItems, renameNode, renameKids}
 use Rattle.trie.specs.Trie.{branch, Item, leaf, Node, Kids, none, kid}
-use Rattle.trie.proofs.Forget.{find-rename}
+use Rattle.trie.proofs.RenameNodes.{find-rename}
 
 module _ {X Y : Type 0} (g : X → Y) where
   some-to : (ks : Kids X) → Some ks ↔ Some (renameKids g ks)
@@ -34,10 +34,15 @@ module _ {X Y : Type 0} (g : X → Y) where
   asc-to none = (λ a. a, λ a. a)
   asc-to (kid s m ks) = above-to s ks
 
-  all-to : (P : ℕ → Node X → Type 0) (R : ℕ → Node Y → Type 0) → ((s : ℕ) (m : Node X) → P s m ↔ R s (renameNode g m)) → (ks : Kids X) → AllKids P ks ↔ AllKids R (renameKids g ks)
+  all-to : (P : ℕ → Node X → Type 0) (R : ℕ → Node Y → Type 0) → ((s : ℕ) (m : Node X) → P s m ↔ R s (renameNode g m))
+      → (ks : Kids X) → AllKids P ks ↔ AllKids R (renameKids g ks)
   unfolding AllKids renameNode
   all-to P R i none = (λ a. a, λ a. a)
-  all-to P R i (kid s m ks) = (λ a. (i s m .0 (a .0), all-to P R i ks .0 (a .1)), λ a. (i s m .1 (a .0), all-to P R i ks .1 (a .1)))
+  all-to P R i (kid s m ks) = (
+    λ a. (i s m .0 (a .0), all-to P R i ks .0 (a .1)),
+    λ a.
+        (i s m .1 (a .0), all-to P R i ks .1 (a .1)),
+  )
 
   some-items : (xs : List (Item X)) → NonEmpty xs ↔ NonEmpty (renameItems g xs)
   unfolding NonEmpty renameItems
@@ -58,7 +63,8 @@ module _ {X Y : Type 0} (g : X → Y) where
   )
 
   module _ (seg : ℕ → ℕ → ℕ) (W : Entry → Type 0) where
-    pub canon-rename : (n : ℕ) (path : List ℕ) (Q : Kids X → Type 0) (R : Kids Y → Type 0) → ((ks : Kids X) → Q ks ↔ R (renameKids g ks)) → (m : Node X)
+    pub canon-rename : (n : ℕ) (path : List ℕ) (Q : Kids X → Type 0) (R : Kids Y → Type 0)
+        → ((ks : Kids X) → Q ks ↔ R (renameKids g ks)) → (m : Node X)
         → Canon seg W Q n path m ↔ Canon seg W R n path (renameNode g m)
     unfolding Canon renameNode renameItems
     canon-rename zero path Q R qr (leaf xs) = (
@@ -70,8 +76,10 @@ module _ {X Y : Type 0} (g : X → Y) where
     canon-rename (suc n) path Q R qr (leaf (x ∷ [])) = (λ a. a, λ a. a)
     canon-rename (suc n) path Q R qr (leaf (x ∷ (y ∷ ys))) = (λ a. a, λ a. a)
     canon-rename (suc n) path Q R qr (branch c ks) =
-        let i : AllKids (λ s m. Canon seg W Busy n (s ∷ path) m) ks ↔ AllKids (λ s m. Canon seg W Busy n (s ∷ path) m) (renameKids g ks)
-        = all-to (λ s m. Canon seg W Busy n (s ∷ path) m) (λ s m. Canon seg W Busy n (s ∷ path) m) (λ s m. canon-rename n (s ∷ path) Busy Busy busy-to m) ks in
+        let i : AllKids (λ s m. Canon seg W Busy n (s ∷ path) m) ks
+        ↔ AllKids (λ s m. Canon seg W Busy n (s ∷ path) m) (renameKids g ks)
+        = all-to (λ s m. Canon seg W Busy n (s ∷ path) m) (λ s m. Canon seg W Busy n (s ∷ path) m)
+        (λ s m. canon-rename n (s ∷ path) Busy Busy busy-to m) ks in
         (λ a. (qr ks .0 (a .0), asc-to ks .0 (a .1), i .0 (a .2)), λ a. (qr ks .1 (a .0), asc-to ks .1 (a .1), i .1 (a .2)))
 
     pub root-rename : (n : ℕ) (m : Node X) → Canon seg W Some n [] m ↔ Canon seg W Some n [] (renameNode g m)

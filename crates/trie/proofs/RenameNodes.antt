@@ -21,16 +21,19 @@ module _ {X Y : Type 0} (g : X → Y) where
   find-rename h k [] = refl
   find-rename h k (x ∷ xs) = rw (find-rename h k xs)
 
-  copied-rename : (f : ℕ → X) (j h k : ℕ) (xs : List (Item X)) → renameItems g (copied f j h k xs) ≡ copied (λ i. g (f i)) j h k (renameItems g xs)
+  copied-rename : (f : ℕ → X) (j h k : ℕ) (xs : List (Item X)) → renameItems g (copied f j h k xs)
+      ≡ copied (λ i. g (f i)) j h k (renameItems g xs)
   unfolding copied renameItems
   copied-rename f j h k [] = refl
   copied-rename f j h k (x ∷ xs) = cond-ap (renameItems g) (matches h k (x .entry)) xs _ ∙ rw (copied-rename f (suc j) h k xs)
 
-  removed-rename : (f : ℕ → X) (j h k : ℕ) (xs : List (Item X)) → renameItems g (list-remove-first f j h k xs) ≡ list-remove-first (λ i. g (f i)) j h k (renameItems g xs)
+  removed-rename : (f : ℕ → X) (j h k : ℕ) (xs : List (Item X)) → renameItems g (list-remove-first f j h k xs)
+      ≡ list-remove-first (λ i. g (f i)) j h k (renameItems g xs)
   unfolding list-remove-first ifGot
   removed-rename f j h k xs = rw (find-rename h k xs) (go (find h k xs))
     where
-      go : (o : Got) → renameItems g (ifGot o (copied f j h k xs) xs) ≡ ifGot o (copied (λ i. g (f i)) j h k (renameItems g xs)) (renameItems g xs)
+      go : (o : Got) → renameItems g (ifGot o (copied f j h k xs) xs)
+          ≡ ifGot o (copied (λ i. g (f i)) j h k (renameItems g xs)) (renameItems g xs)
       go absent = refl
       go (got v) = copied-rename f j h k xs
 
@@ -68,7 +71,8 @@ module _ {X Y : Type 0} (g : X → Y) where
 
   settle-rename : (s : ℕ) (ks : Kids X) (m : Node X) → renameKids g (settle s ks m) ≡ settle s (renameKids g ks) (renameNode g m)
   unfolding settle
-  settle-rename s ks m = cond-ap (renameKids g) (is-empty m) (take-out s ks) (put s m ks) ∙ rw (take-rename s ks, put-rename s m ks, empty-rename m)
+  settle-rename s ks m = cond-ap (renameKids g) (is-empty m) (take-out s ks) (put s m ks)
+      ∙ rw (take-rename s ks, put-rename s m ks, empty-rename m)
 
   compress-rename : (c : X) (ks : Kids X) → renameNode g (compress c ks) ≡ compress (g c) (renameKids g ks)
   unfolding compress renameNode
@@ -78,19 +82,25 @@ module _ {X Y : Type 0} (g : X → Y) where
 
   module _ (seg : ℕ → ℕ → ℕ) (b : ℕ → X) (f : ℕ → X) where
     insert-rename-branch : (n t : ℕ) (e : Entry) (c : X) (ks : Kids X)
-        → ((m : Node X) → renameNode g (insertNode seg b f n (suc t) e m) ≡ insertNode seg (λ i. g (b i)) (λ i. g (f i)) n (suc t) e (renameNode g m))
+        → ((m : Node X) → renameNode g (insertNode seg b f n (suc t) e m)
+        ≡ insertNode seg (λ i. g (b i)) (λ i. g (f i)) n (suc t) e (renameNode g m))
         → (o : Found X) → child (seg t (e .hash)) ks ≡ o
-        → renameNode g (insertNode seg b f (suc n) t e (branch c ks)) ≡ insertNode seg (λ i. g (b i)) (λ i. g (f i)) (suc n) t e (branch (g c) (renameKids g ks))
+        → renameNode g (insertNode seg b f (suc n) t e (branch c ks))
+        ≡ insertNode seg (λ i. g (b i)) (λ i. g (f i)) (suc n) t e (branch (g c) (renameKids g ks))
     unfolding renameNode renameItems renameFound
     insert-rename-branch n t e c ks ih missing r =
         ap (renameNode g) (insert-new seg b f n t e c ks r) ∙ ap (branch (g (b t))) (put-rename (seg t (e .hash)) (single f e) ks)
-        ∙ sym (insert-new seg (λ i. g (b i)) (λ i. g (f i)) n t e (g c) (renameKids g ks) (child-rename (seg t (e .hash)) ks ∙ ap (renameFound g) r))
+        ∙ sym (insert-new seg (λ i. g (b i)) (λ i. g (f i)) n t e (g c) (renameKids g ks)
+        (child-rename (seg t (e .hash)) ks ∙ ap (renameFound g) r))
     insert-rename-branch n t e c ks ih (found m) r =
         ap (renameNode g) (insert-at seg b f n t e c ks m r)
-        ∙ ap (branch (g (b t))) (put-rename (seg t (e .hash)) (insertNode seg b f n (suc t) e m) ks ∙ ap (λ (z : Node Y). put (seg t (e .hash)) z (renameKids g ks)) (ih m))
-        ∙ sym (insert-at seg (λ i. g (b i)) (λ i. g (f i)) n t e (g c) (renameKids g ks) (renameNode g m) (child-rename (seg t (e .hash)) ks ∙ ap (renameFound g) r))
+        ∙ ap (branch (g (b t))) (put-rename (seg t (e .hash)) (insertNode seg b f n (suc t) e m) ks
+        ∙ ap (λ (z : Node Y). put (seg t (e .hash)) z (renameKids g ks)) (ih m))
+        ∙ sym (insert-at seg (λ i. g (b i)) (λ i. g (f i)) n t e (g c) (renameKids g ks) (renameNode g m)
+        (child-rename (seg t (e .hash)) ks ∙ ap (renameFound g) r))
 
-    pub insert-rename : (n t : ℕ) (e : Entry) (m : Node X) → renameNode g (insertNode seg b f n t e m) ≡ insertNode seg (λ i. g (b i)) (λ i. g (f i)) n t e (renameNode g m)
+    pub insert-rename : (n t : ℕ) (e : Entry) (m : Node X) → renameNode g (insertNode seg b f n t e m)
+        ≡ insertNode seg (λ i. g (b i)) (λ i. g (f i)) n t e (renameNode g m)
     unfolding insertNode push-front renameNode renameItems
     insert-rename zero t e (leaf xs) = rw (removed-rename f 1 (e .hash) (e .key) xs)
     insert-rename zero t e (branch c ks) = refl
@@ -99,29 +109,41 @@ module _ {X Y : Type 0} (g : X → Y) where
         cond-ap (renameNode g) (matches (e .hash) (e .key) (x .entry)) _ _
         ∙ ap (λ (z : Node Y). cond (matches (e .hash) (e .key) (x .entry)) (single (λ i. g (f i)) e) z)
         (cond-ap (renameNode g) (eqb (seg t (x .entry .hash)) (seg t (e .hash))) _ _
-        ∙ rw (insert-rename n (suc t) e (leaf (x ∷ xs)), put-rename (seg t (e .hash)) (single f e) (kid (seg t (x .entry .hash)) (leaf (x ∷ xs)) none)))
-    insert-rename (suc n) t e (branch c ks) = insert-rename-branch n t e c ks (λ m. insert-rename n (suc t) e m) (child (seg t (e .hash)) ks) refl
+        ∙ rw (
+          insert-rename n (suc t) e (leaf (x ∷ xs)),
+          put-rename (seg t (e .hash)) (single f e)
+              (kid (seg t (x .entry .hash)) (leaf (x ∷ xs)) none),
+        ))
+    insert-rename (suc n) t e (branch c ks) = insert-rename-branch n t e c ks (λ m. insert-rename n (suc t) e m)
+        (child (seg t (e .hash)) ks) refl
 
     remove-rename-branch : (n t h k : ℕ) (c : X) (ks : Kids X)
-        → ((m : Node X) → renameNode g (removeNode seg b f n (suc t) h k m) ≡ removeNode seg (λ i. g (b i)) (λ i. g (f i)) n (suc t) h k (renameNode g m))
+        → ((m : Node X) → renameNode g (removeNode seg b f n (suc t) h k m)
+        ≡ removeNode seg (λ i. g (b i)) (λ i. g (f i)) n (suc t) h k (renameNode g m))
         → (o : Found X) → child (seg t h) ks ≡ o
-        → renameNode g (removeNode seg b f (suc n) t h k (branch c ks)) ≡ removeNode seg (λ i. g (b i)) (λ i. g (f i)) (suc n) t h k (branch (g c) (renameKids g ks))
+        → renameNode g (removeNode seg b f (suc n) t h k (branch c ks))
+        ≡ removeNode seg (λ i. g (b i)) (λ i. g (f i)) (suc n) t h k (branch (g c) (renameKids g ks))
     unfolding renameNode renameFound
     remove-rename-branch n t h k c ks ih missing r =
         ap (renameNode g) (remove-not seg b f n t h k c ks r)
-        ∙ sym (remove-not seg (λ i. g (b i)) (λ i. g (f i)) n t h k (g c) (renameKids g ks) (child-rename (seg t h) ks ∙ ap (renameFound g) r))
+        ∙ sym (remove-not seg (λ i. g (b i)) (λ i. g (f i)) n t h k (g c) (renameKids g ks)
+        (child-rename (seg t h) ks ∙ ap (renameFound g) r))
     remove-rename-branch n t h k c ks ih (found m) r =
         ap (renameNode g) (remove-at seg b f n t h k c ks m r)
         ∙ compress-rename (b t) (settle (seg t h) ks (removeNode seg b f n (suc t) h k m))
-        ∙ ap (compress (g (b t))) (settle-rename (seg t h) ks (removeNode seg b f n (suc t) h k m) ∙ ap (settle (seg t h) (renameKids g ks)) (ih m))
-        ∙ sym (remove-at seg (λ i. g (b i)) (λ i. g (f i)) n t h k (g c) (renameKids g ks) (renameNode g m) (child-rename (seg t h) ks ∙ ap (renameFound g) r))
+        ∙ ap (compress (g (b t))) (settle-rename (seg t h) ks (removeNode seg b f n (suc t) h k m)
+        ∙ ap (settle (seg t h) (renameKids g ks)) (ih m))
+        ∙ sym (remove-at seg (λ i. g (b i)) (λ i. g (f i)) n t h k (g c) (renameKids g ks) (renameNode g m)
+        (child-rename (seg t h) ks ∙ ap (renameFound g) r))
 
-    pub remove-rename : (n t h k : ℕ) (m : Node X) → renameNode g (removeNode seg b f n t h k m) ≡ removeNode seg (λ i. g (b i)) (λ i. g (f i)) n t h k (renameNode g m)
+    pub remove-rename : (n t h k : ℕ) (m : Node X) → renameNode g (removeNode seg b f n t h k m)
+        ≡ removeNode seg (λ i. g (b i)) (λ i. g (f i)) n t h k (renameNode g m)
     unfolding removeNode renameNode
     remove-rename zero t h k (leaf xs) = ap leaf (removed-rename f 0 h k xs)
     remove-rename zero t h k (branch c ks) = refl
     remove-rename (suc n) t h k (leaf xs) = ap leaf (removed-rename f 0 h k xs)
-    remove-rename (suc n) t h k (branch c ks) = remove-rename-branch n t h k c ks (λ m. remove-rename n (suc t) h k m) (child (seg t h) ks) refl
+    remove-rename (suc n) t h k (branch c ks)
+        = remove-rename-branch n t h k c ks (λ m. remove-rename n (suc t) h k m) (child (seg t h) ks) refl
 
   -- what a path shows
   ahead-rename : (h k : ℕ) (xs : List (Item X)) → ahead h k (renameItems g xs) ≡ ahead h k xs
@@ -139,7 +161,8 @@ module _ {X Y : Type 0} (g : X → Y) where
     chain-rename zero t h (leaf xs) = refl
     chain-rename zero t h (branch c ks) = unfold renameItems in refl
     chain-rename (suc n) t h (leaf xs) = refl
-    chain-rename (suc n) t h (branch c ks) = rw (child-rename (seg t h) ks) (go (λ m. chain-rename n (suc t) h m) (child (seg t h) ks))
+    chain-rename (suc n) t h (branch c ks) = rw (child-rename (seg t h) ks)
+        (go (λ m. chain-rename n (suc t) h m) (child (seg t h) ks))
       where
         go : ((m : Node X) → chain seg n (suc t) h (renameNode g m) ≡ renameItems g (chain seg n (suc t) h m)) → (o : Found X)
             → onFound [] (chain seg n (suc t) h) (renameFound g o) ≡ renameItems g (onFound [] (chain seg n (suc t) h) o)
@@ -153,7 +176,8 @@ module _ {X Y : Type 0} (g : X → Y) where
     unfolding along renameNode
     along-rename zero t h m = refl
     along-rename (suc n) t h (leaf xs) = refl
-    along-rename (suc n) t h (branch c ks) = rw (child-rename (seg t h) ks) (go (λ m. along-rename n (suc t) h m) (child (seg t h) ks))
+    along-rename (suc n) t h (branch c ks) = rw (child-rename (seg t h) ks)
+        (go (λ m. along-rename n (suc t) h m) (child (seg t h) ks))
       where
         go : ((m : Node X) → along seg (λ c. 1) n (suc t) h (renameNode g m) ≡ along seg (λ c. 1) n (suc t) h m) → (o : Found X)
             → 1 + onFound 0 (along seg (λ c. 1) n (suc t) h) (renameFound g o) ≡ 1 + onFound 0 (along seg (λ c. 1) n (suc t) h) o
