@@ -10,10 +10,12 @@ use Rattle.trie.specs.Cells.{before, along, branchesOn, standBefore, ins
 use Rattle.trie.specs.Entry.{Entry}
 use Rattle.trie.specs.Names.{cells, total, branchSum, entrySum, onMap, news, gone}
 use Rattle.trie.specs.Trie.{branch, leaf, single, chain, Node, none, kid, empty, root, Map, onFound, child, item, is-empty, removeNode, remove, Updated, not-there, updated, tidy, insert}
+use Rattle.trie.proofs.InsertCases.{insert-case}
 use Rattle.trie.proofs.InsertNames.{insert-entries, insert-fresh, insert-branches}
 use Rattle.trie.proofs.KidsLaws.{child-hit}
 use Rattle.trie.proofs.MapLaws.{removal, Removal, taken-out}
 use Rattle.trie.proofs.PathNames.{along-leaf, along-found, news-next, along-within, chain-within, along-most}
+use Rattle.trie.proofs.RemoveCases.{remove-case}
 use Rattle.trie.proofs.RemoveNames.{remove-entries, remove-branches, remove-fresh}
 use Rattle.trie.proofs.Sums.{total-only, gone-within, news-ones}
 
@@ -46,8 +48,12 @@ module _ (seg : ℕ → ℕ → ℕ) (d : ℕ) (W : Entry → Type 0) {X : Type 
 
       no-news : news w b 1 0 ≡ 0
       no-news = unfold news in refl
-  insert-branch-names e (root m) c = omega
-      (arith, insert-branches seg W b f e w (suc d) [] Some m c, insert-fresh seg b f e w (suc d) 0 m)
+  insert-branch-names e (root m) c = omega (
+    arith,
+    insert-branches seg W b f e w (insert-case seg W b f e (suc d) [] Some m c),
+    insert-fresh seg W b f e w
+        (insert-case seg W b f e (suc d) [] Some m c),
+  )
 
   pub insert-entry-names : (e : Entry) (m : Map X) → Good m
       → onMap (entrySum w) (insert seg (suc d) b f e m) + goneSum (e .hash) (e .key) m
@@ -68,7 +74,7 @@ module _ (seg : ℕ → ℕ → ℕ) (d : ℕ) (W : Entry → Type 0) {X : Type 
   insert-entry-names e (root m) c =
       omega (
         arith,
-        insert-entries seg W b f e w (suc d) [] Some m c,
+        insert-entries seg W b f e w (insert-case seg W b f e (suc d) [] Some m c),
         news-next seg w f 0
             (before (e .hash) (e .key) (chain seg (suc d) 0 (e .hash) m)) _ refl,
       )
@@ -100,8 +106,8 @@ module _ (seg : ℕ → ℕ → ℕ) (d : ℕ) (W : Entry → Type 0) {X : Type 
       omega (
         arith,
         tidy-branches h m',
-        tidy-fresh h m' (remove-fresh seg W b f h k w (suc d) [] Some n cn v g),
-        remove-branches seg W b f h k w (suc d) [] Some n cn,
+        tidy-fresh h m' (remove-fresh seg W b f h k w (remove-case seg W b f h k (suc d) [] Some n cn) v g),
+        remove-branches seg W b f h k w (remove-case seg W b f h k (suc d) [] Some n cn),
       )
 
   tidy-entries : (m : Node X) → onMap (entrySum w) (tidy m) ≡ entrySum w m
@@ -118,7 +124,12 @@ module _ (seg : ℕ → ℕ → ℕ) (d : ℕ) (W : Entry → Type 0) {X : Type 
       let m' : Node X = removeNode seg b f (suc d) 0 h k n in
       let root-sum : onMap (entrySum w) (root n) ≡ entrySum w n = unfold onMap in refl in
       let root-gone : goneSum h k (root n) ≡ gone w h k (chain seg (suc d) 0 h n) = unfold onMap in refl in
-      omega (arith, tidy-entries m', remove-entries seg W b f h k w (suc d) [] Some n (unfold Canonical in c))
+      omega (
+        arith,
+        tidy-entries m',
+        remove-entries seg W b f h k w
+            (remove-case seg W b f h k (suc d) [] Some n (unfold Canonical in c)),
+      )
 
   pub remove-branch-names : (h k : ℕ) (m m' : Map X) → remove seg (suc d) b f h k m ≡ updated m' → Good m
       → onMap (branchSum w) m' + pathSum h m ≡ onMap (branchSum w) m + news w b 0 (removeTakes seg (suc d) b f h k m .branches)

@@ -17,9 +17,9 @@ use Rattle.trie.specs.Listing.{All}
 use Rattle.trie.specs.Names.{forget}
 use Rattle.trie.specs.Trie.{Node, Map}
 use Rattle.trie.proofs.BuiltLaws.{built-canonical, canonical-built}
-use Rattle.trie.proofs.RenameMaps.{rename-canonical}
 use Rattle.trie.proofs.InsertCanon.{busy-some}
 use Rattle.trie.proofs.ListingLaws.{listing-under}
+use Rattle.trie.proofs.RenameMaps.{rename-canonical}
 use Rattle.trie.proofs.Tests.{eq?}
 use Rattle.trie.proofs.Unique.{begins, Begins, canon-lists}
 

@@ -1,18 +1,18 @@
 -- Insert keeps a trie canonical: the new entry stands under its path, and a branch that it makes or meets has company below it.
-use mathlib.Core.Path.{_≡_, refl, sym, _∙_}
+use mathlib.Core.Path.{_≡_, refl, sym, _∙_, subst}
 use mathlib.Core.Bool.{false}
-use mathlib.Core.Logic.{⊎-elim}
 use mathlib.Core.List.{List, [], _∷_}
 use Prim.Native.Nat.{ℕ, zero, suc}
 use native.Mathlib.Omega.{arith}
 use lib.ListN.{length}
 use Rattle.trie.specs.Canon.{Above, Asc, AllKids, Some, Big, Busy, AllItems, Distinct, NonEmpty, Under, In, Canon}
 use Rattle.trie.specs.Entry.{Entry, matches, Got, absent, got, ifGot}
-use Rattle.trie.specs.Trie.{branch, Item, leaf, single, Node, Kids, none, kid, Found, missing, found, child, put, item, find, copied, list-remove-first, push-front, insertNode}
+use Rattle.trie.specs.Trie.{Item, leaf, single, Node, Kids, none, kid, found, child, put, item, find, copied, list-remove-first, push-front, insertNode, every}
 use Rattle.trie.proofs.ChainLaws.{find-miss, copied-hit, copied-miss, find-removed-same, all-removed, distinct-removed}
+use Rattle.trie.proofs.InsertCases.{single-down, InsertCase, in-chain, replaced, deeper, apart, new-child, in-child, insert-case}
 use Rattle.trie.proofs.KidsLaws.{put-less, put-more, asc-put, all-put, all-child, some-put, busy-put}
-use Rattle.trie.proofs.NodeLaws.{find-none, insert-same, insert-deep, insert-apart, insert-new, insert-at}
-use Rattle.trie.proofs.Tests.{split, Tri, is-less, is-equal, is-more, tri, eq?}
+use Rattle.trie.proofs.PathLaws.{find-none}
+use Rattle.trie.proofs.Tests.{split, Tri, is-less, is-equal, is-more, tri, not-both}
 
 -- what may be asked of a branch's children: of a root's, and of all others'
 pub record Ask {X : Type 0} (Q : Kids X → Type 0) : Type 0 where
@@ -29,14 +29,6 @@ busy-some (kid s m ks) a = tt
 
 pub ask-some : (X : Type 0) → Ask {X = X} Some
 ask-some X = record { of-busy = busy-some; of-put = λ s n ks a big. some-put s n ks }
-
-module _ (seg : ℕ → ℕ → ℕ) (W : Entry → Type 0) {X : Type 0} where
-  -- a single goes one depth down
-  pub single-down : (n : ℕ) (path : List ℕ) (x : Item X) (s : ℕ) → seg (length path) (x .entry .hash) ≡ s
-      → In seg W path (x .entry) → Canon seg W Busy n (s ∷ path) (leaf (x ∷ []))
-  unfolding Canon NonEmpty AllItems Distinct Under
-  single-down zero path x s e (u, w) = (tt, (((e, u), w), tt), (find-none X (x .entry .hash) (x .entry .key), tt))
-  single-down (suc n) path x s e (u, w) = ((e, u), w)
 
 module _ {X : Type 0} where
   pub big-two : (x : Item X) (xs : List (Item X)) → NonEmpty xs → Big (leaf (x ∷ xs))
@@ -73,30 +65,28 @@ module _ {X : Type 0} where
 
 module _ (seg : ℕ → ℕ → ℕ) (W : Entry → Type 0) {X : Type 0} (b : ℕ → X) (f : ℕ → X) (e : Entry) where
   -- what is no single stays none
-  pub big-insert : (n : ℕ) (path : List ℕ) (Q : Kids X → Type 0) (m : Node X) → Canon seg W Q n path m → Big m
-      → Big (insertNode seg b f n (length path) e m)
-  unfolding Canon Big insertNode
-  big-insert zero path Q (leaf []) c a = absurd a
-  big-insert zero path Q (leaf (x ∷ [])) c a = absurd a
-  big-insert zero path Q (leaf (x ∷ (y ∷ xs))) c a
-      = unfold push-front in (big-two (item (f 0) e) _ (removed-two f 1 (e .hash) (e .key) x y xs))
-  big-insert zero path Q (branch d ks) c a = absurd c
-  big-insert (suc n) path Q (leaf []) c a = absurd a
-  big-insert (suc n) path Q (leaf (x ∷ [])) c a = absurd a
-  big-insert (suc n) path Q (leaf (x ∷ (y ∷ xs))) c a = absurd c
-  big-insert (suc n) path Q (branch d ks) c a = tt
+  big-insert : {n : ℕ} {path : List ℕ} {m m' : Node X} → InsertCase seg W b f e n path m m' → Canon seg W Busy n path m → Big m
+      → Big m'
+  unfolding Big push-front
+  big-insert (in-chain []) c a = absurd a
+  big-insert (in-chain (x ∷ [])) c a = absurd a
+  big-insert (in-chain (x ∷ (y ∷ xs))) c a = big-two (item (f 0) e) _ (removed-two f 1 (e .hash) (e .key) x y xs)
+  big-insert (replaced x p) c a = absurd a
+  big-insert (deeper x p q r) c a = absurd a
+  big-insert (apart x p q) c a = absurd a
+  big-insert (new-child d ks asc all r) c a = tt
+  big-insert (in-child d ks asc all r i) c a = tt
 
-  -- a single that gets company
-  pub big-company : (n t : ℕ) (x : Item X) → matches (e .hash) (e .key) (x .entry) ≡ false
-      → Big (insertNode seg b f n t e (leaf (x ∷ [])))
-  unfolding Big
-  big-company zero t x p =
-      unfold insertNode push-front in
-      (rw (removed-absent f 1 (e .hash) (e .key) (x ∷ []) (find-miss (e .hash) (e .key) x [] p ∙ find-none X (e .hash) (e .key)))
-      tt)
-  big-company (suc n) t x p =
-      ⊎-elim (λ q. rw (insert-deep seg b f n t e x [] p q) tt) (λ q. rw (insert-apart seg b f n t e x [] p q) tt)
-      (eq? (seg t (x .entry .hash)) (seg t (e .hash)))
+  -- a single that gets company is none
+  big-company : {n : ℕ} {path : List ℕ} {m : Node X} (x : Item X) → matches (e .hash) (e .key) (x .entry) ≡ false
+      → InsertCase seg W b f e n path (leaf (x ∷ [])) m → Big m
+  unfolding Big push-front
+  big-company x ne (in-chain xs) =
+      rw (removed-absent f 1 (e .hash) (e .key) (x ∷ []) (find-miss (e .hash) (e .key) x [] ne ∙ find-none X (e .hash) (e .key)))
+      tt
+  big-company x ne (replaced y p) = absurd (not-both (e .hash) (e .key) (x .entry) p ne)
+  big-company x ne (deeper y p q r) = tt
+  big-company x ne (apart y p q) = tt
 
   -- a single, new
   pub canon-single : (n : ℕ) (path : List ℕ) (Q : Kids X → Type 0) → In seg W path e → Canon seg W Q n path (single f e)
@@ -108,77 +98,49 @@ module _ (seg : ℕ → ℕ → ℕ) (W : Entry → Type 0) {X : Type 0} (b : �
   unfolding Under
   down path (u, w) = ((refl, u), w)
 
-  pub canon-insert : (n : ℕ) (path : List ℕ) (Q : Kids X → Type 0) → Ask Q → (m : Node X) → Canon seg W Q n path m
-      → In seg W path e
-      → Canon seg W Q n path (insertNode seg b f n (length path) e m)
-  unfolding Canon Asc Above AllKids Busy NonEmpty AllItems Distinct
-  canon-insert zero path Q ask (leaf xs) (some, all, dist) i =
-      unfold insertNode push-front in (
+  insert-canon : {n : ℕ} {path : List ℕ} {m m' : Node X} → InsertCase seg W b f e n path m m' → (Q : Kids X → Type 0) → Ask Q
+      → Canon seg W Q n path m → In seg W path e
+      → Canon seg W Q n path m'
+  unfolding Canon Asc Above AllKids NonEmpty AllItems Distinct
+  insert-canon {path = path} (in-chain xs) Q ask (some, all, dist) i =
+      unfold push-front in (
         tt,
         (i, all-removed (In seg W path) f 1 (e .hash) (e .key) xs all),
         (find-removed-same f 1 (e .hash) (e .key) xs dist, distinct-removed f 1 (e .hash) (e .key) xs dist),
       )
-  canon-insert zero path Q ask (branch d ks) c i = absurd c
-  canon-insert (suc n) path Q ask (leaf []) c i = absurd c
-  canon-insert (suc n) path Q ask (leaf (x ∷ (y ∷ xs))) c i = absurd c
-  canon-insert (suc n) path Q ask (leaf (x ∷ [])) c i =
-      let t : ℕ = length path in
-      split (matches (e .hash) (e .key) (x .entry))
-      (λ p. rw (insert-same seg b f n t e x [] p) i)
-      (λ p. ⊎-elim
-      (λ q. rw (insert-deep seg b f n t e x [] p q)
-      ((
-        ask .of-busy _ (big-company n (suc t) x p),
-        tt,
-        (
-          canon-insert n (seg t (e .hash) ∷ path) Busy (ask-busy X) (leaf (x ∷ []))
-              (single-down seg W n path x (seg t (e .hash)) q c) (down path i),
-          tt,
-        ),
-      )))
-      (λ q. rw (insert-apart seg b f n t e x [] p q)
-      ((
-        ask .of-busy _ (busy-apart (seg t (e .hash)) (seg t (x .entry .hash)) (single f e) (leaf (x ∷ [])) q),
-        asc-put (seg t (e .hash)) (single f e) (kid (seg t (x .entry .hash)) (leaf (x ∷ [])) none) tt,
-        all-put (λ s m. Canon seg W Busy n (s ∷ path) m) (seg t (e .hash)) (single f e)
-            (kid (seg t (x .entry .hash)) (leaf (x ∷ [])) none)
-            (canon-single n (seg t (e .hash) ∷ path) Busy (down path i))
-            (single-down seg W n path x (seg t (x .entry .hash)) refl c, tt),
-      )))
-      (eq? (seg t (x .entry .hash)) (seg t (e .hash))))
-  canon-insert (suc n) path Q ask (branch d ks) (q, asc, all) i =
-      let t : ℕ = length path in
-      go (λ m c. canon-insert n (seg t (e .hash) ∷ path) Busy (ask-busy X) m c (down path i)) (child (seg t (e .hash)) ks) refl
+  insert-canon (replaced x p) Q ask c i = i
+  insert-canon (deeper {n = n} {path = path} x p q r) Q ask c i = (
+    ask .of-busy _ (unfold Busy in (big-company x p r)),
+    tt,
+    (insert-canon r Busy (ask-busy X) (single-down seg W n path x (seg (length path) (e .hash)) q c) (down path i), tt),
+  )
+  insert-canon (apart {n = n} {path = path} x p q) Q ask c i =
+      let ks : Kids X = kid (seg (length path) (x .entry .hash)) (leaf (x ∷ [])) none in (
+        ask .of-busy _ (busy-apart (seg (length path) (e .hash)) (seg (length path) (x .entry .hash)) (single f e) (leaf (x ∷ []))
+            q),
+        asc-put (seg (length path) (e .hash)) (single f e) ks tt,
+        all-put (λ s m. Canon seg W Busy n (s ∷ path) m) (seg (length path) (e .hash)) (single f e) ks
+            (canon-single n (seg (length path) (e .hash) ∷ path) Busy (down path i))
+            (single-down seg W n path x (seg (length path) (x .entry .hash)) refl c, tt),
+      )
+  insert-canon (new-child {n = n} {path = path} d ks asc all r) Q ask (q, up, every) i = (
+    ask .of-put (seg (length path) (e .hash)) (single f e) ks q (λ m z. absurd (let w : _≡_ {A = ℕ} 0 1 = cc in omega arith)),
+    asc-put (seg (length path) (e .hash)) (single f e) ks asc,
+    all-put (λ s m. Canon seg W Busy n (s ∷ path) m) (seg (length path) (e .hash)) (single f e) ks
+        (canon-single n (seg (length path) (e .hash) ∷ path) Busy (down path i)) all,
+  )
+  insert-canon (in-child {n = n} {path = path} {m = m} {m' = m'} d ks asc all r j) Q ask (q, up, every) i =
+      let cm : Canon seg W Busy n (seg (length path) (e .hash) ∷ path) m = all-child _ (seg (length path) (e .hash)) ks m all r in (
+        ask .of-put (seg (length path) (e .hash)) m' ks q (λ l y a. big-insert j cm (subst Big (one l y) a)),
+        asc-put (seg (length path) (e .hash)) m' ks asc,
+        all-put (λ s m. Canon seg W Busy n (s ∷ path) m) (seg (length path) (e .hash)) m' ks
+            (insert-canon j Busy (ask-busy X) cm (down path i)) all,
+      )
     where
-      P : ℕ → Node X → Type 0
-      P = λ s m. Canon seg W Busy n (s ∷ path) m
+      one : (l : Node X) → child (seg (length path) (e .hash)) ks ≡ found l → l ≡ m
+      one l y = cc
 
-      go : ((m : Node X) → Canon seg W Busy n (seg (length path) (e .hash) ∷ path) m
-          → Canon seg W Busy n (seg (length path) (e .hash) ∷ path) (insertNode seg b f n (suc (length path)) e m))
-          → (o : Found X) → child (seg (length path) (e .hash)) ks ≡ o
-          → Canon seg W Q (suc n) path (insertNode seg b f (suc n) (length path) e (branch d ks))
-      go ih missing r =
-          rw (insert-new seg b f n (length path) e d ks r) (
-            ask .of-put (seg (length path) (e .hash)) (single f e) ks q
-                (λ m z. absurd (let w : _≡_ {A = ℕ} 0 1 = cc in omega arith)),
-            asc-put (seg (length path) (e .hash)) (single f e) ks asc,
-            all-put P (seg (length path) (e .hash)) (single f e) ks
-                (canon-single n (seg (length path) (e .hash) ∷ path) Busy (down path i)) all,
-          )
-      go ih (found m) r =
-          let cm : Canon seg W Busy n (seg (length path) (e .hash) ∷ path) m
-          = all-child P (seg (length path) (e .hash)) ks m all r in
-          rw (insert-at seg b f n (length path) e d ks m r) (
-            ask .of-put (seg (length path) (e .hash)) (insertNode seg b f n (suc (length path)) e m) ks q
-                (λ m' z. elim-same m m' (same-found z r) cm),
-            asc-put (seg (length path) (e .hash)) (insertNode seg b f n (suc (length path)) e m) ks asc,
-            all-put P (seg (length path) (e .hash)) (insertNode seg b f n (suc (length path)) e m) ks (ih m cm) all,
-          )
-        where
-          same-found : {m' : Node X} → child (seg (length path) (e .hash)) ks ≡ found m' → child (seg (length path) (e .hash)) ks
-              ≡ found m → m' ≡ m
-          same-found z r = cc
-
-          elim-same : (m m' : Node X) → m' ≡ m → Canon seg W Busy n (seg (length path) (e .hash) ∷ path) m → Big m'
-              → Big (insertNode seg b f n (suc (length path)) e m)
-          elim-same m m' z cm big = big-insert n (seg (length path) (e .hash) ∷ path) Busy m cm (rw z at big)
+  pub canon-insert : (n : ℕ) (path : List ℕ) (Q : Kids X → Type 0) → Ask Q → (m : Node X) → Canon seg W Q n path m
+      → In seg W path e
+      → Canon seg W Q n path (insertNode seg b f n (length path) e m)
+  canon-insert n path Q ask m c i = insert-canon (insert-case seg W b f e n path Q m c) Q ask c i

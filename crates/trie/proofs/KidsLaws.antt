@@ -24,6 +24,10 @@ module _ {X : Type 0} where
   unfolding child
   child-miss s i m ks e = rw (ne-eqb i s e)
 
+  pub child-only : (s i : ℕ) (m : Node X) → (i ≡ s → ⊥) → child s (kid i m none) ≡ missing
+  unfolding child
+  child-only s i m e = child-miss s i m none e
+
   pub put-hit : (s i : ℕ) (n m : Node X) (ks : Kids X) → i ≡ s → put s n (kid i m ks) ≡ kid s n ks
   unfolding put
   put-hit s i n m ks e = rw (eq-eqb i s e)

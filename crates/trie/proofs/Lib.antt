@@ -1,8 +1,10 @@
 pub mod Tests
 pub mod KidsLaws
 pub mod ChainLaws
-pub mod NodeLaws
+pub mod PathLaws
+pub mod InsertCases
 pub mod InsertCanon
+pub mod RemoveCases
 pub mod RemoveCanon
 pub mod ListLaws
 pub mod OrderLaws

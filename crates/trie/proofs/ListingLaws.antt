@@ -13,8 +13,8 @@ use Rattle.trie.specs.Trie.{branch, Item, leaf, chain, Node, Kids, none,
 use Rattle.trie.proofs.ChainLaws.{copied-hit, copied-miss}
 use Rattle.trie.proofs.KidsLaws.{child-hit, child-miss, put-hit, put-less, put-more, take-hit, take-miss, child-above, above-asc, take-missing, all-child}
 use Rattle.trie.proofs.ListLaws.{cut-hit, cut-miss, all-append, all-weak, Unmatched, absent-unmatched, lookup-skip, lookup-left, cut-skip, cut-none, cut-left, pairwise-append}
-use Rattle.trie.proofs.NodeLaws.{hop-found, hop-missing}
 use Rattle.trie.proofs.OrderLaws.{earlier-high, ordered-down, ordered-last}
+use Rattle.trie.proofs.PathLaws.{hop-found, hop-missing}
 use Rattle.trie.proofs.Tests.{split, Tri, is-less, is-equal, is-more, tri, matches-hash}
 
 -- CHAINS

@@ -8,6 +8,7 @@ use lib.ListN.{length}
 use borrow.Author.Tests.{eq-eqb, ne-eqb, lt-ltb, le-ltb}
 use Rattle.trie.specs.Entry.{Entry, matches, got, ifGot}
 use Rattle.trie.specs.Listing.{All, lookup, Pairwise, cut, earlier, place, Ordered}
+use Rattle.trie.proofs.InsertCases.{apart}
 use Rattle.trie.proofs.ListLaws.{lookup-hit, lookup-miss, cut-hit, cut-miss, Unmatched, cut-none, cut-left, pairwise-weak, cut-other, cut-length}
 use Rattle.trie.proofs.Tests.{split, matches-true, matches-self, matches-alike, not-both}
 

@@ -6,7 +6,7 @@ use native.Mathlib.Omega.{arith}
 use Rattle.trie.specs.Cells.{along}
 use Rattle.trie.specs.Names.{cells, total, branchSum, entrySum, news}
 use Rattle.trie.specs.Trie.{branch, Item, leaf, chain, Node, Kids, Found, missing, found, onFound, child}
-use Rattle.trie.proofs.NodeLaws.{hop-found, hop-missing}
+use Rattle.trie.proofs.PathLaws.{hop-found, hop-missing}
 use Rattle.trie.proofs.Sums.{within}
 
 module _ (seg : ℕ → ℕ → ℕ) {X : Type 0} (w : X → ℕ) where

@@ -8,11 +8,12 @@ use native.Mathlib.Omega.{arith}
 use lib.ListN.{length}
 use Rattle.trie.specs.Canon.{Asc, AllKids, Some, Big, Busy, AllItems, NonEmpty, Under, In, Canon}
 use Rattle.trie.specs.Entry.{Entry, matches, got, ifGot}
-use Rattle.trie.specs.Trie.{branch, Item, leaf, Node, Kids, none, kid, Found, missing, found, child, put, take-out, list-remove-first, getNode, is-empty, is-single, settle, compress, removeNode}
+use Rattle.trie.specs.Trie.{branch, Item, leaf, Node, Kids, none, kid, found, child, put, take-out, list-remove-first, getNode, is-empty, is-single, settle, compress, removeNode, every}
 use Rattle.trie.proofs.ChainLaws.{find-hit, find-miss, copied-hit, all-removed, distinct-removed}
 use Rattle.trie.proofs.InsertCanon.{busy-some, removed-two, removed-absent}
 use Rattle.trie.proofs.KidsLaws.{asc-put, asc-take, all-put, all-take, all-child, some-put, some-take}
-use Rattle.trie.proofs.NodeLaws.{find-none, remove-not, remove-at, remove-leaf, settle-empty, settle-full, hop-missing}
+use Rattle.trie.proofs.PathLaws.{find-none, hop-missing}
+use Rattle.trie.proofs.RemoveCases.{settle-empty, settle-full, RemoveCase, at-leaf, not-below, below, remove-case}
 use Rattle.trie.proofs.Tests.{split}
 
 module _ (seg : ℕ → ℕ → ℕ) (W : Entry → Type 0) {X : Type 0} where
@@ -102,38 +103,20 @@ module _ (seg : ℕ → ℕ → ℕ) (W : Entry → Type 0) {X : Type 0} (b : �
   leaf-left path xs (a, all, dist) (y ∷ ys) q =
       inr (tt, rw q at (all-removed (In seg W path) f 0 h k xs all), rw q at (distinct-removed f 0 h k xs dist))
 
-  branch-left : (n : ℕ) (path : List ℕ) (c : X) (ks : Kids X) → Canon seg W Busy (suc n) path (branch c ks)
-      → ((m : Node X) → Canon seg W Busy n (seg (length path) h ∷ path) m
-      → Left seg W n (seg (length path) h ∷ path) m (removeNode seg b f n (suc (length path)) h k m))
-      → (o : Found X) → child (seg (length path) h) ks ≡ o
-      → Canon seg W Busy (suc n) path (removeNode seg b f (suc n) (length path) h k (branch c ks))
-  branch-left n path c ks a ih missing r = rw (remove-not seg b f n (length path) h k c ks r) a
-  branch-left n path c ks a ih (found m) r =
-      let t : ℕ = length path in
-      let s : ℕ = seg t h in
-      let busy : Busy ks = unfold Canon in (a .0) in
-      let asc : Asc ks = unfold Canon in (a .1) in
-      let all : AllKids (λ s m. Canon seg W Busy n (s ∷ path) m) ks = unfold Canon in (a .2) in
-      let m' : Node X = removeNode seg b f n (suc t) h k m in
-      let l : Left seg W n (s ∷ path) m m' = ih m (all-child _ s ks m all r) in
-      rw (remove-at seg b f n t h k c ks m r)
-      (compress-canon seg W n path (b t) (settle s ks m') (settle-some seg W n path s ks asc all m m' l busy r)
-      (settle-asc seg W n path s ks asc all m m' l) (settle-all seg W n path s ks asc all m m' l))
-
-  pub canon-remove : (n : ℕ) (path : List ℕ) (m : Node X) → Canon seg W Busy n path m
-      → Left seg W n path m (removeNode seg b f n (length path) h k m)
-  unfolding Big
-  canon-remove zero path (leaf xs) c = rw (remove-leaf seg b f 0 (length path) h k xs)
-      (leaf-left path xs c (list-remove-first f 0 h k xs) refl)
-  canon-remove zero path (branch x ks) c = absurd (unfold Canon in c)
-  canon-remove (suc n) path (leaf []) c = absurd (unfold Canon in c)
-  canon-remove (suc n) path (leaf (x ∷ (y ∷ xs))) c = absurd (unfold Canon in c)
-  canon-remove (suc n) path (leaf (x ∷ [])) c =
-      rw (remove-leaf seg b f (suc n) (length path) h k (x ∷ []))
-      (⊎-elim (λ q. inl (ap leaf q, λ z. z)) (λ q. inr (rw q c)) (removed-one f 0 h k x))
-  canon-remove (suc n) path (branch x ks) c =
-      inr (branch-left n path x ks c (λ m a. canon-remove n (seg (length path) h ∷ path) m a) (child (seg (length path) h) ks)
-      refl)
+  pub remove-left : {n : ℕ} {path : List ℕ} {m m' : Node X} → RemoveCase seg W b f h k n path m m' → Canon seg W Busy n path m
+      → Left seg W n path m m'
+  unfolding Canon Big
+  remove-left {n = zero} {path = path} (at-leaf xs) c = leaf-left path xs c (list-remove-first f 0 h k xs) refl
+  remove-left {n = suc n} (at-leaf []) c = absurd c
+  remove-left {n = suc n} (at-leaf (x ∷ [])) c = ⊎-elim (λ q. inl (ap leaf q, λ z. z)) (λ q. inr (rw q c)) (removed-one f 0 h k x)
+  remove-left {n = suc n} (at-leaf (x ∷ (y ∷ xs))) c = absurd c
+  remove-left (not-below d ks asc all r) c = inr c
+  remove-left (below {n = n} {path = path} {m = m} {m' = m'} d ks asc all r i) (busy, up, every) =
+      let l : Left seg W n (seg (length path) h ∷ path) m m' = remove-left i (all-child _ (seg (length path) h) ks m all r) in
+      inr (compress-canon seg W n path (b (length path)) (settle (seg (length path) h) ks m')
+      (settle-some seg W n path (seg (length path) h) ks asc all m m' l busy r)
+      (settle-asc seg W n path (seg (length path) h) ks asc all m m' l)
+      (settle-all seg W n path (seg (length path) h) ks asc all m m' l))
 
 -- AT A ROOT nothing is left, or a node that asks for company as those below do: a lone single is never left under a root branch
 module _ (seg : ℕ → ℕ → ℕ) (W : Entry → Type 0) {X : Type 0} where
@@ -152,38 +135,29 @@ module _ (seg : ℕ → ℕ → ℕ) (W : Entry → Type 0) {X : Type 0} where
   canon-root (suc n) path (branch x ks) (q, asc, all) = (busy-some ks q, asc, all)
 
 module _ (seg : ℕ → ℕ → ℕ) (W : Entry → Type 0) {X : Type 0} (b : ℕ → X) (f : ℕ → X) (h k : ℕ) where
-  abbrev Rest : ℕ → List ℕ → Node X → Type 0
-  Rest n path m = (is-empty m ≡ true) ⊎ Canon seg W Busy n path m
-
   root-kids : (n : ℕ) (path : List ℕ) (c : X) (ks : Kids X) → Asc ks → AllKids (λ s m. Canon seg W Busy n (s ∷ path) m) ks
-      → Rest (suc n) path (compress c ks)
+      → (is-empty (compress c ks) ≡ true) ⊎ Canon seg W Busy (suc n) path (compress c ks)
   unfolding is-empty compress Some
   root-kids n path c none asc all = inl refl
   root-kids n path c (kid s m ks) asc all = inr (compress-canon seg W n path c (kid s m ks) tt asc all)
 
-  root-branch : (n : ℕ) (path : List ℕ) (c : X) (ks : Kids X) (v : ℕ) → Canon seg W Some (suc n) path (branch c ks)
-      → getNode seg (suc n) (length path) h k (branch c ks) ≡ got v
-      → (o : Found X) → child (seg (length path) h) ks ≡ o
-      → Rest (suc n) path (removeNode seg b f (suc n) (length path) h k (branch c ks))
-  root-branch n path c ks v a g missing r = let z : _≡_ {A = ℕ} 0 1
-      = cc (find-none X h k, hop-missing seg n (length path) h c ks r) in absurd (omega arith)
-  root-branch n path c ks v a g (found m) r =
-      let t : ℕ = length path in
-      let asc : Asc ks = unfold Canon in (a .1) in
-      let all : AllKids (λ s m. Canon seg W Busy n (s ∷ path) m) ks = unfold Canon in (a .2) in
-      let m' : Node X = removeNode seg b f n (suc t) h k m in
-      let l : Left seg W n (seg t h ∷ path) m m'
-      = canon-remove seg W b f h k n (seg t h ∷ path) m (all-child _ (seg t h) ks m all r) in
-      rw (remove-at seg b f n t h k c ks m r)
-      (root-kids n path (b t) (settle (seg t h) ks m') (settle-asc seg W n path (seg t h) ks asc all m m' l)
-      (settle-all seg W n path (seg t h) ks asc all m m' l))
+  root-left : {n : ℕ} {path : List ℕ} {m m' : Node X} → RemoveCase seg W b f h k n path m m' → (v : ℕ)
+      → getNode seg n (length path) h k m ≡ got v → Canon seg W Some n path m
+      → (is-empty m' ≡ true) ⊎ Canon seg W Busy n path m'
+  root-left {n = n} {path = path} (at-leaf xs) v g c =
+      ⊎-elim (λ q. inl (rw (q .0) (unfold is-empty in refl))) (λ a. inr a)
+      (remove-left seg W b f h k (at-leaf {n = n} {path = path} xs) (canon-leaf seg W n path Some Busy xs c))
+  root-left (not-below {n = n} {path = path} d ks asc all r) v g c = let z : _≡_ {A = ℕ} 0 1
+      = cc (find-none X h k, hop-missing seg n (length path) h d ks r) in absurd (omega arith)
+  root-left (below {n = n} {path = path} {m = m} {m' = m'} d ks asc all r i) v g c =
+      let l : Left seg W n (seg (length path) h ∷ path) m m'
+      = remove-left seg W b f h k i (all-child _ (seg (length path) h) ks m all r) in
+      root-kids n path (b (length path)) (settle (seg (length path) h) ks m')
+      (settle-asc seg W n path (seg (length path) h) ks asc all m m' l)
+      (settle-all seg W n path (seg (length path) h) ks asc all m m' l)
 
   pub root-remove : (n : ℕ) (path : List ℕ) (m : Node X) (v : ℕ) → Canon seg W Some n path m → getNode seg n (length path) h k m
       ≡ got v
       → (is-empty (removeNode seg b f n (length path) h k m) ≡ true)
       ⊎ Canon seg W Busy n path (removeNode seg b f n (length path) h k m)
-  root-remove n path (leaf xs) v c g =
-      ⊎-elim (λ q. inl (rw (q .0) (unfold is-empty in refl))) (λ a. inr a)
-      (canon-remove seg W b f h k n path (leaf xs) (canon-leaf seg W n path Some Busy xs c))
-  root-remove zero path (branch x ks) v c g = absurd (unfold Canon in c)
-  root-remove (suc n) path (branch x ks) v c g = root-branch n path x ks v c g (child (seg (length path) h) ks) refl
+  root-remove n path m v c g = root-left (remove-case seg W b f h k n path Some m c) v g c

@@ -2,18 +2,19 @@
 use mathlib.Core.Path.{_≡_, refl, sym, _∙_, ap}
 use mathlib.Core.Logic.{⊎-elim}
 use mathlib.Core.List.{List, [], _∷_}
-use Prim.Native.Nat.{ℕ, zero, suc, _+_}
+use Prim.Native.Nat.{ℕ, suc, _+_}
 use native.Mathlib.Omega.{arith}
 use lib.ListN.{length}
-use Rattle.trie.specs.Canon.{Asc, AllKids, Busy, Canon}
+use Rattle.trie.specs.Canon.{Asc}
 use Rattle.trie.specs.Cells.{before, along}
 use Rattle.trie.specs.Entry.{Entry, got}
 use Rattle.trie.specs.Names.{cells, total, branchSum, entrySum, news, gone}
-use Rattle.trie.specs.Trie.{branch, Item, leaf, chain, Node, Kids, none, kid, Found, missing, found, child, put, take-out, find, list-remove-first, getNode, settle, compress, removeNode}
+use Rattle.trie.specs.Trie.{branch, Item, leaf, chain, Node, Kids, none, kid, found, child, put, take-out, find, list-remove-first, getNode, settle}
 use Rattle.trie.proofs.KidsLaws.{child-hit, child-miss, child-put, child-take, all-child}
-use Rattle.trie.proofs.NodeLaws.{find-none, remove-not, remove-at, remove-leaf, lone, Pressed, stays, pressed, chain-leaf, hop-found, hop-missing}
+use Rattle.trie.proofs.PathLaws.{find-none, chain-leaf, hop-found, hop-missing}
 use Rattle.trie.proofs.PathNames.{along-leaf, along-found, along-missing, news-next, Fresh, fresh-leaf}
-use Rattle.trie.proofs.RemoveCanon.{Left, settle-left, canon-remove}
+use Rattle.trie.proofs.RemoveCanon.{Left, settle-left, remove-left}
+use Rattle.trie.proofs.RemoveCases.{lone, Pressed, stays, pressed, RemoveCase, at-leaf, not-below, below}
 use Rattle.trie.proofs.Sums.{removed-cells, gone-absent, before-absent, total-only, put-old, take-old}
 use Rattle.trie.proofs.Tests.{eq?}
 
@@ -64,131 +65,72 @@ module _ (seg : ℕ → ℕ → ℕ) {X : Type 0} (w : X → ℕ) (n t h : ℕ) 
   press-along c ks m (stays k) = refl
 
 module _ (seg : ℕ → ℕ → ℕ) (W : Entry → Type 0) {X : Type 0} (b : ℕ → X) (f : ℕ → X) (h k : ℕ) (w : X → ℕ) where
-  abbrev Entries : ℕ → ℕ → Node X → Type 0
-  Entries n t m =
-      entrySum w (removeNode seg b f n t h k m) + gone w h k (chain seg n t h m)
-      ≡ entrySum w m + news w f 0 (before h k (chain seg n t h m))
-
-  entries-leaf : (n t : ℕ) (xs : List (Item X)) → Entries n t (leaf xs)
-  unfolding total
-  entries-leaf n t xs = rw (remove-leaf seg b f n t h k xs, chain-leaf) (removed-cells w h k f 0 xs)
-
-  entries-branch : (n : ℕ) (path : List ℕ) (c : X) (ks : Kids X) → Asc ks → AllKids (λ s m. Canon seg W Busy n (s ∷ path) m) ks
-      → ((m : Node X) → Canon seg W Busy n (seg (length path) h ∷ path) m → Entries n (suc (length path)) m)
-      → (o : Found X) → child (seg (length path) h) ks ≡ o → Entries (suc n) (length path) (branch c ks)
-  entries-branch n path c ks asc all ih missing r =
+  -- THE ENTRY CELLS: gone are those up to the removed one, new is one for each before it, all others stay
+  pub remove-entries : {n : ℕ} {path : List ℕ} {m m' : Node X} → RemoveCase seg W b f h k n path m m'
+      → entrySum w m' + gone w h k (chain seg n (length path) h m)
+      ≡ entrySum w m + news w f 0 (before h k (chain seg n (length path) h m))
+  remove-entries {n = n} {path = path} (at-leaf xs)
+      = unfold total in (rw (chain-leaf seg n (length path) h xs) (removed-cells w h k f 0 xs))
+  remove-entries (not-below {n = n} {path = path} c ks asc all r) =
       rw (
-        remove-not seg b f n (length path) h k c ks r,
         hop-missing seg n (length path) h c ks r,
-        gone-absent w h k []
+        gone-absent w h k [] (find-none X h k),
+        before-absent w h k []
             (find-none X h k),
-        before-absent w h k [] (find-none X h k),
+      ) (unfold news in refl)
+  remove-entries (below {n = n} {path = path} {m = m} {m' = m'} c ks asc all r i) =
+      rw (hop-found seg n (length path) h c ks m r)
+      (omega (
+        arith,
+        press-total (cells w) (b (length path)) (settle (seg (length path) h) ks m') _
+            (pressed (b (length path)) (settle (seg (length path) h) ks m')),
+        settle-total seg W (λ d. 0) (cells w) (unfold cells in refl) n (seg (length path) h ∷ path) (b (length path)) c
+            (seg (length path) h) m' m ks asc r
+            (remove-left seg W b f h k i (all-child _ (seg (length path) h) ks m all r)),
+        remove-entries i,
+      ))
+
+  -- THE BRANCH CELLS: gone are those on the old path, new are those left on it, all others stay
+  pub remove-branches : {n : ℕ} {path : List ℕ} {m m' : Node X} → RemoveCase seg W b f h k n path m m'
+      → branchSum w m' + along seg w n (length path) h m ≡ branchSum w m + along seg w n (length path) h m'
+  remove-branches {n = n} {path = path} (at-leaf xs)
+      = unfold total in (rw (
+        along-leaf seg w n (length path) h xs,
+        along-leaf seg w n (length path) h
+            (list-remove-first f 0 h k xs),
+      ))
+  remove-branches (not-below c ks asc all r) = refl
+  remove-branches (below {n = n} {path = path} {m = m} {m' = m'} c ks asc all r i) =
+      let l : Left seg W n (seg (length path) h ∷ path) m m'
+      = remove-left seg W b f h k i (all-child _ (seg (length path) h) ks m all r) in
+      omega (
+        arith,
+        press-along seg w n (length path) h (b (length path)) (settle (seg (length path) h) ks m') _
+            (pressed (b (length path)) (settle (seg (length path) h) ks m')),
+        settle-total seg W w (λ xs. 0) refl n (seg (length path) h ∷ path) (b (length path)) c (seg (length path) h) m' m ks asc r
+            l,
+        settle-along seg W w n (length path) h (seg (length path) h ∷ path) (b (length path)) m' m ks asc l,
+        along-found seg w n (length path) h c ks m r,
+        remove-branches i,
       )
-      (unfold news in refl)
-  entries-branch n path c ks asc all ih (found m) r =
-      let t : ℕ = length path in
-      let cm : Canon seg W Busy n (seg t h ∷ path) m = all-child _ (seg t h) ks m all r in
-      let m' : Node X = removeNode seg b f n (suc t) h k m in
-      rw (remove-at seg b f n t h k c ks m r, hop-found seg n t h c ks m r)
-      (omega (
-        arith,
-        press-total (cells w) (b t) (settle (seg t h) ks m') (compress (b t) (settle (seg t h) ks m'))
-            (pressed (b t) (settle (seg t h) ks m')),
-        settle-total seg W (λ d. 0) (cells w) (unfold cells in refl) n (seg t h ∷ path) (b t) c (seg t h) m' m ks asc r
-            (canon-remove seg W b f h k n (seg t h ∷ path) m cm),
-        ih m cm,
-      ))
-
-  -- THE ENTRY CELLS OF REMOVE
-  pub remove-entries : (n : ℕ) (path : List ℕ) (Q : Kids X → Type 0) (m : Node X) → Canon seg W Q n path m
-      → Entries n (length path) m
-  unfolding Canon
-  remove-entries zero path Q (leaf xs) c = entries-leaf zero (length path) xs
-  remove-entries zero path Q (branch d ks) c = absurd c
-  remove-entries (suc n) path Q (leaf xs) c = entries-leaf (suc n) (length path) xs
-  remove-entries (suc n) path Q (branch d ks) (q, asc, all) =
-      entries-branch n path d ks asc all (λ m a. remove-entries n (seg (length path) h ∷ path) Busy m a)
-      (child (seg (length path) h) ks) refl
-
-  abbrev Branches : ℕ → ℕ → Node X → Type 0
-  Branches n t m = branchSum w (removeNode seg b f n t h k m) + along seg w n t h m
-      ≡ branchSum w m + along seg w n t h (removeNode seg b f n t h k m)
-
-  branches-leaf : (n t : ℕ) (xs : List (Item X)) → Branches n t (leaf xs)
-  unfolding total
-  branches-leaf n t xs = rw (
-    remove-leaf seg b f n t h k xs,
-    along-leaf seg w n t h xs,
-    along-leaf seg w n t h
-        (list-remove-first f 0 h k xs),
-  )
-
-  branches-branch : (n : ℕ) (path : List ℕ) (c : X) (ks : Kids X) → Asc ks → AllKids (λ s m. Canon seg W Busy n (s ∷ path) m) ks
-      → ((m : Node X) → Canon seg W Busy n (seg (length path) h ∷ path) m → Branches n (suc (length path)) m)
-      → (o : Found X) → child (seg (length path) h) ks ≡ o → Branches (suc n) (length path) (branch c ks)
-  branches-branch n path c ks asc all ih missing r = rw (remove-not seg b f n (length path) h k c ks r)
-  branches-branch n path c ks asc all ih (found m) r =
-      let t : ℕ = length path in
-      let cm : Canon seg W Busy n (seg t h ∷ path) m = all-child _ (seg t h) ks m all r in
-      let m' : Node X = removeNode seg b f n (suc t) h k m in
-      rw (remove-at seg b f n t h k c ks m r)
-      (omega (
-        arith,
-        press-along seg w n t h (b t) (settle (seg t h) ks m') (compress (b t) (settle (seg t h) ks m'))
-            (pressed (b t) (settle (seg t h) ks m')),
-        settle-total seg W w (λ xs. 0) refl n (seg t h ∷ path) (b t) c (seg t h) m' m ks asc r
-            (canon-remove seg W b f h k n (seg t h ∷ path) m cm),
-        settle-along seg W w n t h (seg t h ∷ path) (b t) m' m ks asc (canon-remove seg W b f h k n (seg t h ∷ path) m cm),
-        along-found seg w n t h c ks m r,
-        ih m cm,
-      ))
-
-  -- THE BRANCH CELLS OF REMOVE
-  pub remove-branches : (n : ℕ) (path : List ℕ) (Q : Kids X → Type 0) (m : Node X) → Canon seg W Q n path m
-      → Branches n (length path) m
-  unfolding Canon
-  remove-branches zero path Q (leaf xs) c = branches-leaf zero (length path) xs
-  remove-branches zero path Q (branch d ks) c = absurd c
-  remove-branches (suc n) path Q (leaf xs) c = branches-leaf (suc n) (length path) xs
-  remove-branches (suc n) path Q (branch d ks) (q, asc, all) =
-      branches-branch n path d ks asc all (λ m a. remove-branches n (seg (length path) h ∷ path) Busy m a)
-      (child (seg (length path) h) ks) refl
 
   fresh-press : (n t : ℕ) (ks : Kids X) (m : Node X) → Pressed (b t) ks m → Fresh seg b h w (suc n) t (branch (b t) ks)
       → Fresh seg b h w (suc n) t m
   fresh-press n t ks m (lone s x) i = fresh-leaf seg b h w (suc n) t (x ∷ [])
   fresh-press n t ks m (stays l) i = i
 
-  fresh-branch : (n : ℕ) (path : List ℕ) (c : X) (ks : Kids X) → Asc ks → AllKids (λ s m. Canon seg W Busy n (s ∷ path) m) ks
-      → ((m : Node X) → Canon seg W Busy n (seg (length path) h ∷ path) m → (v : ℕ) → getNode seg n (suc (length path)) h k m
-      ≡ got v
-      → Fresh seg b h w n (suc (length path)) (removeNode seg b f n (suc (length path)) h k m))
-      → (v : ℕ) → getNode seg (suc n) (length path) h k (branch c ks) ≡ got v
-      → (o : Found X) → child (seg (length path) h) ks ≡ o
-      → Fresh seg b h w (suc n) (length path) (removeNode seg b f (suc n) (length path) h k (branch c ks))
-  fresh-branch n path c ks asc all ih v g missing r =
-      let z : _≡_ {A = ℕ} 0 1 = cc (find-none X h k, hop-missing seg n (length path) h c ks r) in absurd (omega arith)
-  fresh-branch n path c ks asc all ih v g (found m) r =
-      let t : ℕ = length path in
-      let cm : Canon seg W Busy n (seg t h ∷ path) m = all-child _ (seg t h) ks m all r in
-      let m' : Node X = removeNode seg b f n (suc t) h k m in
-      let l : Left seg W n (seg t h ∷ path) m m' = canon-remove seg W b f h k n (seg t h ∷ path) m cm in
-      rw (remove-at seg b f n t h k c ks m r)
-      (fresh-press n t (settle (seg t h) ks m') (compress (b t) (settle (seg t h) ks m')) (pressed (b t) (settle (seg t h) ks m'))
-      (settle-along seg W w n t h (seg t h ∷ path) (b t) m' m ks asc l
-      ∙ ap (λ (z : ℕ). w (b t) + z) (ih m cm v (sym (ap (find h k) (hop-found seg n t h c ks m r)) ∙ g))
-      ∙ sym (news-next seg w b t (along seg (λ c. 1) n (suc t) h m') _
-      (settle-along seg W (λ (c : X). 1) n t h (seg t h ∷ path) (b t) m' m ks asc l))))
-
   -- THE BRANCHES LEFT ON THE PATH are b t, b (t + 1), ..
-  pub remove-fresh : (n : ℕ) (path : List ℕ) (Q : Kids X → Type 0) (m : Node X) → Canon seg W Q n path m → (v : ℕ)
+  pub remove-fresh : {n : ℕ} {path : List ℕ} {m m' : Node X} → RemoveCase seg W b f h k n path m m' → (v : ℕ)
       → getNode seg n (length path) h k m ≡ got v
-      → Fresh seg b h w n (length path) (removeNode seg b f n (length path) h k m)
-  unfolding Canon
-  remove-fresh zero path Q (leaf xs) c v g = unfold along news in refl
-  remove-fresh zero path Q (branch d ks) c v g = absurd c
-  remove-fresh (suc n) path Q (leaf xs) c v g
-      = rw (remove-leaf seg b f (suc n) (length path) h k xs) (fresh-leaf seg b h w (suc n) (length path) _)
-  remove-fresh (suc n) path Q (branch d ks) (q, asc, all) v g =
-      fresh-branch n path d ks asc all (λ m a. remove-fresh n (seg (length path) h ∷ path) Busy m a) v g
-      (child (seg (length path) h) ks) refl
+      → Fresh seg b h w n (length path) m'
+  remove-fresh {n = n} {path = path} (at-leaf xs) v g = fresh-leaf seg b h w n (length path) _
+  remove-fresh (not-below {n = n} {path = path} c ks asc all r) v g =
+      let z : _≡_ {A = ℕ} 0 1 = cc (find-none X h k, hop-missing seg n (length path) h c ks r) in absurd (omega arith)
+  remove-fresh (below {n = n} {path = path} {m = m} {m' = m'} c ks asc all r i) v g =
+      let t : ℕ = length path in
+      let l : Left seg W n (seg t h ∷ path) m m' = remove-left seg W b f h k i (all-child _ (seg t h) ks m all r) in
+      fresh-press n t (settle (seg t h) ks m') _ (pressed (b t) (settle (seg t h) ks m'))
+      (settle-along seg W w n t h (seg t h ∷ path) (b t) m' m ks asc l
+      ∙ ap (λ (z : ℕ). w (b t) + z) (remove-fresh i v (sym (ap (find h k) (hop-found seg n t h c ks m r)) ∙ g))
+      ∙ sym (news-next seg w b t (along seg (λ c. 1) n (suc t) h m') _
+      (settle-along seg W (λ (c : X). 1) n t h (seg t h ∷ path) (b t) m' m ks asc l)))

@@ -8,7 +8,8 @@ use Rattle.trie.specs.Cells.{before, ahead, along}
 use Rattle.trie.specs.Entry.{Entry, matches, Got, absent, got, ifGot}
 use Rattle.trie.specs.Names.{renameItems, renameNode, renameKids, renameFound}
 use Rattle.trie.specs.Trie.{branch, Item, leaf, single, chain, Node, Kids, none, kid, Found, missing, found, onFound, child, put, take-out, find, copied, list-remove-first, push-front, getNode, insertNode, is-empty, is-single, settle, compress, removeNode, listingChain, listingNode, listingKids}
-use Rattle.trie.proofs.NodeLaws.{insert-new, insert-at, remove-not, remove-at}
+use Rattle.trie.proofs.InsertCases.{insert-new, insert-at}
+use Rattle.trie.proofs.RemoveCases.{remove-not, remove-at}
 
 module _ {X Y : Type 0} (g : X → Y) where
   -- a test under a function
