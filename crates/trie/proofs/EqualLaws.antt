@@ -71,14 +71,16 @@ module _ (seg : ℕ → ℕ → ℕ) (d : ℕ) (W : Entry → Type 0) {X Y : Typ
       = agree-same-set (listing m) (listing n) (map-listing-once seg d W m cm) (map-listing-once seg d W n cn) in
       (λ q. s .0 (equal-agree q), λ t. agree-equal (s .1 t))
 
-module _ (seg : ℕ → ℕ → ℕ) (d : ℕ) (W : Entry → Type 0) {X Y Z : Type 0} (m : Map X) (n : Map Y) (o : Map Z)
-    (cm : Canonical seg W (suc d) m) (cn : Canonical seg W (suc d) n) (co : Canonical seg W (suc d) o) where
+-- REFLEXIVE, SYMMETRIC AND TRANSITIVE
+module _ (seg : ℕ → ℕ → ℕ) (d : ℕ) (W : Entry → Type 0) {X : Type 0} (m : Map X) (cm : Canonical seg W (suc d) m) where
   pub equal-reflexive : equal seg (suc d) m m ≡ true
   equal-reflexive = agree-equal seg d W m m cm cm (λ h k. refl)
 
-  pub equal-symmetric : equal seg (suc d) m n ≡ true → equal seg (suc d) n m ≡ true
-  equal-symmetric q = agree-equal seg d W n m cn cm (λ h k. sym (equal-agree seg d W m n cm cn q h k))
+  module _ {Y : Type 0} (n : Map Y) (cn : Canonical seg W (suc d) n) where
+    pub equal-symmetric : equal seg (suc d) m n ≡ true → equal seg (suc d) n m ≡ true
+    equal-symmetric q = agree-equal seg d W n m cn cm (λ h k. sym (equal-agree seg d W m n cm cn q h k))
 
-  pub equal-transitive : equal seg (suc d) m n ≡ true → equal seg (suc d) n o ≡ true → equal seg (suc d) m o ≡ true
-  equal-transitive q r = agree-equal seg d W m o cm co
-      (λ h k. equal-agree seg d W m n cm cn q h k ∙ equal-agree seg d W n o cn co r h k)
+    pub equal-transitive : {Z : Type 0} (o : Map Z) → Canonical seg W (suc d) o → equal seg (suc d) m n ≡ true
+        → equal seg (suc d) n o ≡ true → equal seg (suc d) m o ≡ true
+    equal-transitive o co q r =
+        agree-equal seg d W m o cm co (λ h k. equal-agree seg d W m n cm cn q h k ∙ equal-agree seg d W n o cn co r h k)

@@ -10,11 +10,12 @@ pub record Taken : Type 0 where
   pub branches : ℕ
   pub entries : ℕ
 
--- how many entries of a chain stand before the key; 0 where it is not there
+-- how many entries of a chain stand before the first that matches
 unfoldable pub ahead : {X : Type 0} → ℕ → ℕ → List (Item X) → ℕ
 ahead h k [] = 0
 ahead h k (x ∷ xs) = cond (matches h k (x .entry)) 0 (suc (ahead h k xs))
 
+-- how many stand before the key; 0 where it is not there
 unfoldable pub before : {X : Type 0} → ℕ → ℕ → List (Item X) → ℕ
 before h k xs = ifGot (find h k xs) (ahead h k xs) 0
 
