@@ -153,47 +153,47 @@ module _ (seg : ℕ → ℕ → ℕ) (d : ℕ) (W : Entry → Type 0) {X : Type 
   gone-inside h k (root m) = omega (arith, gone-within w h k (chain seg (suc d) 0 h m), chain-within seg w (suc d) 0 h m)
 
   -- THE COUNTS: where a new name weighs 1 and an old one 0, the result weighs what document 01 counts
-  module _ (new-b : (j : ℕ) → w (b j) ≡ 1) (new-f : (j : ℕ) → w (f j) ≡ 1) (m : Map X) (c : Good m)
-      (old-b : onMap (branchSum w) m ≡ 0) (old-f : onMap (entrySum w) m ≡ 0) where
-    pub insert-new-branches : (e : Entry) → onMap (branchSum w) (insert seg (suc d) b f e m)
-        ≡ insertTakes seg (suc d) b f e m .branches
-    insert-new-branches e = omega (
-      arith,
-      insert-branch-names e m c,
-      path-within (e .hash) m,
-      news-ones w b new-b 0
-          (insertTakes seg (suc d) b f e m .branches),
-    )
+  module _ (new : (j : ℕ) → w (b j) ≡ 1) (m : Map X) (c : Good m) (old : onMap (branchSum w) m ≡ 0) where
+    pub insert-new-branches : (e : Entry)
+        → onMap (branchSum w) (insert seg (suc d) b f e m) ≡ insertTakes seg (suc d) b f e m .branches
+    insert-new-branches e =
+        omega (
+          arith,
+          insert-branch-names e m c,
+          path-within (e .hash) m,
+          news-ones w b new 0 (insertTakes seg (suc d) b f e m .branches),
+        )
 
-    pub insert-new-entries : (e : Entry) → onMap (entrySum w) (insert seg (suc d) b f e m)
-        ≡ insertTakes seg (suc d) b f e m .entries
-    insert-new-entries e = omega (
-      arith,
-      insert-entry-names e m c,
-      gone-inside (e .hash) (e .key) m,
-      news-ones w f new-f 0
-          (insertTakes seg (suc d) b f e m .entries),
-    )
+    pub remove-new-branches : (h k : ℕ) (m' : Map X) → remove seg (suc d) b f h k m ≡ updated m'
+        → onMap (branchSum w) m' ≡ removeTakes seg (suc d) b f h k m .branches
+    remove-new-branches h k m' q =
+        omega (
+          arith,
+          remove-branch-names h k m m' q c,
+          path-within h m,
+          news-ones w b new 0 (removeTakes seg (suc d) b f h k m .branches),
+        )
 
-    pub remove-new-branches : (h k : ℕ) (m' : Map X) → remove seg (suc d) b f h k m ≡ updated m' → onMap (branchSum w) m'
-        ≡ removeTakes seg (suc d) b f h k m .branches
-    remove-new-branches h k m' q = omega (
-      arith,
-      remove-branch-names h k m m' q c,
-      path-within h m,
-      news-ones w b new-b 0
-          (removeTakes seg (suc d) b f h k m .branches),
-    )
+  module _ (new : (j : ℕ) → w (f j) ≡ 1) (m : Map X) (c : Good m) (old : onMap (entrySum w) m ≡ 0) where
+    pub insert-new-entries : (e : Entry)
+        → onMap (entrySum w) (insert seg (suc d) b f e m) ≡ insertTakes seg (suc d) b f e m .entries
+    insert-new-entries e =
+        omega (
+          arith,
+          insert-entry-names e m c,
+          gone-inside (e .hash) (e .key) m,
+          news-ones w f new 0 (insertTakes seg (suc d) b f e m .entries),
+        )
 
-    pub remove-new-entries : (h k : ℕ) (m' : Map X) → remove seg (suc d) b f h k m ≡ updated m' → onMap (entrySum w) m'
-        ≡ removeTakes seg (suc d) b f h k m .entries
-    remove-new-entries h k m' q = omega (
-      arith,
-      remove-entry-names h k m m' q c,
-      gone-inside h k m,
-      news-ones w f new-f 0
-          (removeTakes seg (suc d) b f h k m .entries),
-    )
+    pub remove-new-entries : (h k : ℕ) (m' : Map X) → remove seg (suc d) b f h k m ≡ updated m'
+        → onMap (entrySum w) m' ≡ removeTakes seg (suc d) b f h k m .entries
+    remove-new-entries h k m' q =
+        omega (
+          arith,
+          remove-entry-names h k m m' q c,
+          gone-inside h k m,
+          news-ones w f new 0 (removeTakes seg (suc d) b f h k m .entries),
+        )
 
 -- AT MOST ONE BRANCH CELL FOR EACH DEPTH
 module _ (seg : ℕ → ℕ → ℕ) (d : ℕ) {X : Type 0} (b f : ℕ → X) (m : Map X) where

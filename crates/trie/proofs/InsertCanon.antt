@@ -130,7 +130,8 @@ module _ (seg : ℕ → ℕ → ℕ) (W : Entry → Type 0) {X : Type 0} (b : �
         (canon-single n (seg (length path) (e .hash) ∷ path) Busy (down path i)) all,
   )
   insert-canon (in-child {n = n} {path = path} {m = m} {m' = m'} d ks asc all r j) Q ask (q, up, every) i =
-      let cm : Canon seg W Busy n (seg (length path) (e .hash) ∷ path) m = all-child _ (seg (length path) (e .hash)) ks m all r in (
+      let cm : Canon seg W Busy n (seg (length path) (e .hash) ∷ path) m
+      = all-child _ (seg (length path) (e .hash)) ks m all r in (
         ask .of-put (seg (length path) (e .hash)) m' ks q (λ l y a. big-insert j cm (subst Big (one l y) a)),
         asc-put (seg (length path) (e .hash)) m' ks asc,
         all-put (λ s m. Canon seg W Busy n (s ∷ path) m) (seg (length path) (e .hash)) m' ks

@@ -1,14 +1,14 @@
 -- Maps: they stay canonical, and their listings, sizes and answers after insert, change and remove. All of it follows from the
 -- listing, where insert comes to place and remove to cut.
 use mathlib.Core.Path.{_≡_, refl, sym, _∙_, ap, subst}
-use mathlib.Core.Bool.{true, false}
+use mathlib.Core.Bool.{true}
 use mathlib.Core.Logic.{_⊎_, inl, inr}
 use mathlib.Core.List.{List, [], _∷_}
 use Prim.Native.Nat.{ℕ, suc, _+_}
 use native.Mathlib.Omega.{arith}
 use lib.ListN.{length}
 use Rattle.trie.specs.Canon.{Above, Asc, AllKids, Some, Busy, Under, Canon, Canonical}
-use Rattle.trie.specs.Entry.{Entry, matches, Got, absent, got, ifGot}
+use Rattle.trie.specs.Entry.{Entry, Got, absent, got, ifGot}
 use Rattle.trie.specs.Listing.{lookup, Pairwise, Once, cut, place, Ordered}
 use Rattle.trie.specs.Trie.{branch, leaf, Node, none, kid, empty, root, Map, getNode, is-empty, removeNode, listingChain, listingNode, listing, size, remove, not-there, updated, tidy, get, insert, change}
 use Rattle.trie.proofs.InsertCanon.{ask-some, canon-single, canon-insert}
@@ -17,7 +17,7 @@ use Rattle.trie.proofs.ListingLaws.{listing-get, listing-once, listing-
 use Rattle.trie.proofs.ListingUpdates.{listing-insert, listing-remove}
 use Rattle.trie.proofs.OrderLaws.{place-none, place-same, place-other, place-length}
 use Rattle.trie.proofs.RemoveCanon.{canon-root, root-remove}
-use Rattle.trie.proofs.Tests.{split}
+use Rattle.trie.proofs.Tests.{split, matches-other, matches-one}
 
 -- the depths are suc d
 module _ (seg : ℕ → ℕ → ℕ) (d : ℕ) (W : Entry → Type 0) {X : Type 0} where
@@ -152,11 +152,12 @@ module _ (seg : ℕ → ℕ → ℕ) (d : ℕ) (W : Entry → Type 0) {X : Type 
       sym (map-listing-get (insert seg (suc d) b f e m) (canonical-insert b f e m w c) (e .hash) (e .key))
       ∙ ap (lookup (e .hash) (e .key)) (map-lists-insert b f e m c) ∙ place-same seg (suc d) 0 e (listing m)
 
-  pub get-insert-other : (b f : ℕ → X) (e : Entry) (m : Map X) (h k : ℕ) → matches h k e ≡ false → W e → Good m
+  pub get-insert-other : (b f : ℕ → X) (e : Entry) (m : Map X) (h k : ℕ) → ((e .hash ≡ h) × (e .key ≡ k) → ⊥) → W e → Good m
       → get seg (suc d) h k (insert seg (suc d) b f e m) ≡ get seg (suc d) h k m
   get-insert-other b f e m h k ne w c =
       sym (map-listing-get (insert seg (suc d) b f e m) (canonical-insert b f e m w c) h k)
-      ∙ ap (lookup h k) (map-lists-insert b f e m c) ∙ place-other seg (suc d) 0 e h k ne (listing m) ∙ map-listing-get m c h k
+      ∙ ap (lookup h k) (map-lists-insert b f e m c) ∙ place-other seg (suc d) 0 e h k (matches-other h k e ne) (listing m)
+      ∙ map-listing-get m c h k
 
   -- GET AFTER REMOVE
   pub get-remove-same : (b f : ℕ → X) (h k : ℕ) (m m' : Map X) → remove seg (suc d) b f h k m ≡ updated m' → Good m
@@ -166,8 +167,8 @@ module _ (seg : ℕ → ℕ → ℕ) (d : ℕ) (W : Entry → Type 0) {X : Type 
       ∙ cut-same h k (listing m) (map-listing-once m c)
 
   pub get-remove-other : (b f : ℕ → X) (h k : ℕ) (m m' : Map X) (h' k' : ℕ)
-      → ((e : Entry) → matches h k e ≡ true → matches h' k' e ≡ true → ⊥)
-      → remove seg (suc d) b f h k m ≡ updated m' → Good m → get seg (suc d) h' k' m' ≡ get seg (suc d) h' k' m
+      → ((h ≡ h') × (k ≡ k') → ⊥) → remove seg (suc d) b f h k m ≡ updated m' → Good m
+      → get seg (suc d) h' k' m' ≡ get seg (suc d) h' k' m
   get-remove-other b f h k m m' h' k' ne q c =
       sym (map-listing-get m' (canonical-remove b f h k m m' q c) h' k') ∙ ap (lookup h' k') (map-lists-remove b f h k m m' q c)
-      ∙ cut-other h k h' k' (listing m) ne ∙ map-listing-get m c h' k'
+      ∙ cut-other h k h' k' (listing m) (matches-one h k h' k' ne) ∙ map-listing-get m c h' k'

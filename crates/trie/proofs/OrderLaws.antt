@@ -8,9 +8,8 @@ use lib.ListN.{length}
 use borrow.Author.Tests.{eq-eqb, ne-eqb, lt-ltb, le-ltb}
 use Rattle.trie.specs.Entry.{Entry, matches, got, ifGot}
 use Rattle.trie.specs.Listing.{All, lookup, Pairwise, cut, earlier, place, Ordered}
-use Rattle.trie.proofs.InsertCases.{apart}
 use Rattle.trie.proofs.ListLaws.{lookup-hit, lookup-miss, cut-hit, cut-miss, Unmatched, cut-none, cut-left, pairwise-weak, cut-other, cut-length}
-use Rattle.trie.proofs.Tests.{split, matches-true, matches-self, matches-alike, not-both}
+use Rattle.trie.proofs.Tests.{split, matches-true, matches-self, matches-apart}
 
 module _ (seg : ℕ → ℕ → ℕ) where
   -- ONE DEPTH: where the segments agree the next depth decides, else the lower one is earlier
@@ -90,13 +89,11 @@ module _ (seg : ℕ → ℕ → ℕ) where
     place-other h k ne (x ∷ xs) =
         split (earlier seg n t (x .hash) (e .hash)) (λ p. rw (place-on x xs p) (kept (place-other h k ne xs)))
         (λ p. rw (place-stop x xs p)
-        (lookup-miss h k e (cut (e .hash) (e .key) (x ∷ xs)) ne ∙ cut-other (e .hash) (e .key) h k (x ∷ xs) apart))
+        (lookup-miss h k e (cut (e .hash) (e .key) (x ∷ xs)) ne
+        ∙ cut-other (e .hash) (e .key) h k (x ∷ xs) (matches-apart e h k ne)))
       where
         kept : lookup h k (place seg n t e xs) ≡ lookup h k xs → lookup h k (x ∷ place seg n t e xs) ≡ lookup h k (x ∷ xs)
         kept ih = unfold lookup in (rw ih)
-
-        apart : (d : Entry) → matches (e .hash) (e .key) d ≡ true → matches h k d ≡ true → ⊥
-        apart d p q = not-both h k e (sym (matches-alike (e .hash) (e .key) e (matches-self e) h k d p) ∙ q) ne
 
     pub place-length : (xs : List Entry) → length (place seg n t e xs) + ifGot (lookup (e .hash) (e .key) xs) 1 0 ≡ length xs + 1
     unfolding ifGot

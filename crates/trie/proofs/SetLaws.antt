@@ -1,7 +1,6 @@
 -- Lists with no key twice, as sets: the entries are what lookup answers, and equality as document 01 puts it is equality of
 -- all answers. To compare, take the first entry out of both.
 use mathlib.Core.Path.{_≡_, refl, sym, _∙_}
-use mathlib.Core.Bool.{true, false}
 use mathlib.Core.Logic.{_⊎_, inl, inr, _↔_}
 use mathlib.Core.List.{List, [], _∷_, List·Memᴰ, List·Memᴰ·head, List·Memᴰ·tail, List·Memᴰ·cases-cons, List·Memᴰ·not-nil}
 use Prim.Native.Nat.{ℕ}
@@ -10,7 +9,7 @@ use lib.ListN.{length}
 use Rattle.trie.specs.Entry.{Entry, matches, Got, absent, got}
 use Rattle.trie.specs.Listing.{All, lookup, Pairwise, Once, cut, SameSet}
 use Rattle.trie.proofs.ListLaws.{lookup-hit, lookup-miss, Unmatched, unmatched-absent, cut-other, cut-same, cut-pairwise, cut-found}
-use Rattle.trie.proofs.Tests.{split, matches-true, matches-self, matches-alike, not-both}
+use Rattle.trie.proofs.Tests.{split, matches-true, matches-self, matches-apart}
 
 -- a member, and its answer
 pub mem-lookup : (e : Entry) (xs : List Entry) → Once xs → List·Memᴰ e xs → lookup (e .hash) (e .key) xs ≡ got (e .value)
@@ -70,17 +69,13 @@ agree-same-set xs ys ox oy = (to, from)
         (s (record { hash = h; key = k; value = v }) .1 (lookup-mem h k v ys q)))
 
 -- the first entry taken out of both
-other-key : (x : Entry) (h k : ℕ) → matches h k x ≡ false → (d : Entry) → matches (x .hash) (x .key) d ≡ true → matches h k d
-    ≡ true → ⊥
-other-key x h k ne d p q = not-both h k x (sym (matches-alike (x .hash) (x .key) x (matches-self x) h k d p) ∙ q) ne
-
 agree-cut : (x : Entry) (xs ys : List Entry) → Once (x ∷ xs) → Once ys → Agree (x ∷ xs) ys → Agree xs (cut (x .hash) (x .key) ys)
 agree-cut x xs ys o oy a h k =
     split (matches h k x)
     (λ p. let z : (x .hash ≡ h) × (x .key ≡ k) = matches-true h k x p in
     rw (← z .0, ← z .1) (unmatched-absent (x .hash) (x .key) xs (unfold Pairwise in (o .0))
     ∙ sym (cut-same (x .hash) (x .key) ys oy)))
-    (λ p. sym (lookup-miss h k x xs p) ∙ a h k ∙ sym (cut-other (x .hash) (x .key) h k ys (other-key x h k p)))
+    (λ p. sym (lookup-miss h k x xs p) ∙ a h k ∙ sym (cut-other (x .hash) (x .key) h k ys (matches-apart x h k p)))
 
 -- AGREEING LISTS ARE OF ONE LENGTH
 pub agree-length : (xs ys : List Entry) → Once xs → Once ys → Agree xs ys → length xs ≡ length ys
@@ -114,11 +109,11 @@ inside-cut : (x : Entry) (ys xs : List Entry) → Unmatched (x .hash) (x .key) x
     → Inside xs (cut (x .hash) (x .key) ys)
 unfolding All
 inside-cut x ys [] u a = tt
-inside-cut x ys (e ∷ es) (n, u) (p, a) = (cut-other (x .hash) (x .key) (e .hash) (e .key) ys clash ∙ p, inside-cut x ys es u a)
-  where
-    clash : (d : Entry) → matches (x .hash) (x .key) d ≡ true → matches (e .hash) (e .key) d ≡ true → ⊥
-    clash d r s = not-both (x .hash) (x .key) e
-        (sym (matches-alike (e .hash) (e .key) e (matches-self e) (x .hash) (x .key) d s) ∙ r) n
+inside-cut x ys (e ∷ es) (n, u) (p, a) = (
+  cut-other (x .hash) (x .key) (e .hash) (e .key) ys (λ d r s. matches-apart e (x .hash) (x .key) n d s r)
+      ∙ p,
+  inside-cut x ys es u a,
+)
 
 -- DOCUMENT 01'S EQUALITY IS AGREEMENT: one list inside another of its length
 pub inside-agree : (xs ys : List Entry) → Once xs → Once ys → length xs ≡ length ys → Inside xs ys → Agree xs ys
@@ -133,4 +128,4 @@ inside-agree (x ∷ xs) ys (u, ox) oy q i h k =
     split (matches h k x)
     (λ p. let z : (x .hash ≡ h) × (x .key ≡ k) = matches-true h k x p in lookup-hit h k x xs p
     ∙ sym (rw (z .0, z .1) at (all .0)))
-    (λ p. lookup-miss h k x xs p ∙ ih ∙ cut-other (x .hash) (x .key) h k ys (other-key x h k p))
+    (λ p. lookup-miss h k x xs p ∙ ih ∙ cut-other (x .hash) (x .key) h k ys (matches-apart x h k p))

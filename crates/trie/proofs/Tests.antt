@@ -1,5 +1,5 @@
 -- Going by cases: on a test, on two numbers, and on whether an entry matches a key.
-use mathlib.Core.Path.{_≡_, refl}
+use mathlib.Core.Path.{_≡_, refl, sym, _∙_}
 use mathlib.Core.Bool.{Bool, true, false, cond}
 use mathlib.Core.Logic.{_⊎_, inl, inr}
 use Prim.Native.Nat.{ℕ, _<_}
@@ -58,3 +58,17 @@ matches-hash h k e ne = rw (ne-eqb (e .hash) h ne)
 
 pub not-both : (h k : ℕ) (e : Entry) → matches h k e ≡ true → matches h k e ≡ false → ⊥
 not-both h k e p q = let z : _≡_ {A = ℕ} 0 1 = cc in omega arith
+
+-- another hash or another key does not match, and no entry matches two
+pub matches-other : (h k : ℕ) (e : Entry) → ((e .hash ≡ h) × (e .key ≡ k) → ⊥) → matches h k e ≡ false
+matches-other h k e ne = split (matches h k e) (λ p. absurd (ne (matches-true h k e p))) (λ p. p)
+
+pub matches-one : (h k h' k' : ℕ) → ((h ≡ h') × (k ≡ k') → ⊥) → (e : Entry) → matches h k e ≡ true → matches h' k' e ≡ true → ⊥
+matches-one h k h' k' ne e p q =
+    let a : (e .hash ≡ h) × (e .key ≡ k) = matches-true h k e p in
+    let b : (e .hash ≡ h') × (e .key ≡ k') = matches-true h' k' e q in
+    ne (sym (a .0) ∙ b .0, sym (a .1) ∙ b .1)
+
+pub matches-apart : (x : Entry) (h k : ℕ) → matches h k x ≡ false → (e : Entry) → matches (x .hash) (x .key) e ≡ true
+    → matches h k e ≡ true → ⊥
+matches-apart x h k ne e p q = not-both h k x (sym (matches-alike (x .hash) (x .key) x (matches-self x) h k e p) ∙ q) ne
