@@ -2,20 +2,16 @@
 -- table, where a depth is below D exactly if its shift is below 64.
 -- Assumes nothing.
 use Prim.Native.Nat.{ℕ, _*_, _≤_, _<_}
-use mathlib.Core.Path.{_≡_, refl}
-use mathlib.Core.Bool.{Bool, true, false}
-use mathlib.Core.Logic.{_⊎_, inl, inr, ⊎-elim}
+use mathlib.Core.Path.{_≡_}
+use mathlib.Core.Bool.{true, false}
 use native.Mathlib.Omega.{arith}
 use native.Mathlib.Nat.{le-trans, mul-le-mul-right}
 use borrow.Author.Tests.{leb-true, leb-false}
+use Rattle.cases.proofs.Cases.{split}
 use Rattle.segments.specs.declared.DegreeRow.the-variants.{Found, NotInTable}
 use Rattle.segments.specs.declared.Index.the-variants.{At, Exhausted, NoSuchDegree}
 use Rattle.segments.specs.Segments.{row, segment, rowOf, exhausted, indexIn, indexOf}
 use Rattle.segments.proofs.TableLaws.{Right, row-right, depths-cover, below-depths, row-of-in}
-
-either : (x : Bool) → (x ≡ true) ⊎ (x ≡ false)
-either true = inl refl
-either false = inr refl
 
 module _ (g bits depths last : ℕ) (found : rowOf g ≡ Found bits depths last) where
   pub found-right : Right (row g bits depths last)
@@ -30,12 +26,12 @@ module _ (g bits depths last : ℕ) (found : rowOf g ≡ Found bits depths last)
   not-exhausted : (t : ℕ) → t < depths → exhausted bits t ≡ false
   unfolding exhausted
   not-exhausted t l =
-      ⊎-elim (λ e. absurd (omega (arith, leb-true, shift-below t l))) (λ e. e) (either (exhausted bits t))
+      split (exhausted bits t) (λ e. absurd (omega (arith, leb-true, shift-below t l))) (λ e. e)
 
   is-exhausted : (t : ℕ) → depths ≤ t → exhausted bits t ≡ true
   unfolding exhausted
   is-exhausted t l =
-      ⊎-elim (λ e. e) (λ e. absurd (omega (arith, leb-false, shift-past t l))) (either (exhausted bits t))
+      split (exhausted bits t) (λ e. e) (λ e. absurd (omega (arith, leb-false, shift-past t l)))
 
   pub index-at : (h t : ℕ) → t < depths → indexOf h t g ≡ At (segment bits t h)
   unfolding indexOf indexIn

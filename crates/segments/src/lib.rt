@@ -1,6 +1,6 @@
 //! The degrees that a trie may have and the path of a hash through it.
 //!
-//! This is the lowest layer of the shelf beside the sparse array: numbers alone, and nothing stands below it.
+//! This is a leaf of the shelf, beside the sparse array: numbers alone, and no code stands below it.
 //! A degree's row says how many bits of a hash each branch takes and at how many depths branches stand; a
 //! segment is the part of a hash that one depth takes.
 //!

@@ -11,7 +11,7 @@ use lib.Pow.{pow-pos, pow-lt, pow-mono, pow-add, mod-pow-add, split, shl-shr}
 use lib.Bits.{bitAnd, bitOr, bitXor, differ, and-mask, and-block, and-zero-r, or-shr, or-step, xor-shr, xor-step, shifted-even}
 use lib.Count.{ones, ones-cat}
 use Rattle.sparse_array.specs.Bitmap.{bit, below, sizeOf}
-use Rattle.sparse_array.proofs.Order.{lt-or-ge}
+use Rattle.cases.proofs.Cases.{lt?}
 
 -- ---- one bit
 
@@ -44,7 +44,7 @@ bit-pow-other i k ne =
     ⊎-elim
     (λ (h : k < i). ap (λ (x : ℕ). bit (2 ^ x) k) {x = i} {y = suc (i - suc k) + k} (omega arith) ∙ bit-pow-under (i - suc k) k)
     (λ (h : i ≤ k). bit-out (2 ^ i) {k = suc i} {j = k} (pow-lt {i = i} {j = suc i} (omega arith)) (omega (arith, ne)))
-    (lt-or-ge k i)
+    (lt? k i)
 
 -- ---- bits of the machine's operations
 
@@ -162,7 +162,7 @@ below-mono n {i} (suc j) h =
     ⊎-elim
     (λ (l : i < suc j). omega (arith, below-next n j, below-mono n {i = i} j (omega arith)))
     (λ (g : suc j ≤ i). let e : i ≡ suc j = omega arith in rw e (omega arith))
-    (lt-or-ge i (suc j))
+    (lt? i (suc j))
 
 -- The ranks behind a set bit are greater than its own, so that no two set bits have the same rank.
 pub below-set : (n i j : ℕ) → bit n i ≡ 1 → i < j → below n i < below n j
@@ -173,7 +173,7 @@ below-own n i j ei ej ne same =
     ⊎-elim
     (λ (l : j < i). omega (arith, below-set n j i ej l))
     (λ (g : i ≤ j). omega (arith, below-set n i j ei (omega (arith, ne))))
-    (lt-or-ge j i)
+    (lt? j i)
 
 -- Behind the bitmap's width nothing is counted.
 pub below-out : (n k j : ℕ) → n < 2 ^ k → k ≤ j → below n j ≡ below n k
@@ -182,7 +182,7 @@ below-out n k (suc j) h le =
     ⊎-elim
     (λ (l : k < suc j). omega (arith, below-next n j, bit-out n {k = k} {j = j} h (omega arith), below-out n k j h (omega arith)))
     (λ (g : suc j ≤ k). let e : k ≡ suc j = omega arith in rw e)
-    (lt-or-ge k (suc j))
+    (lt? k (suc j))
 
 -- A set bit's rank is below the size.
 pub below-size : (n i : ℕ) → n < 2 ^ 64 → bit n i ≡ 1 → below n i < sizeOf n
@@ -190,7 +190,7 @@ below-size n i h e =
     ⊎-elim
     (λ (l : i < 64). below-set n i 64 e l)
     (λ (g : 64 ≤ i). absurd (omega (arith, bit-out n {k = 64} {j = i} h g)))
-    (lt-or-ge i 64)
+    (lt? i 64)
 
 -- ---- the counts of two bitmaps that differ in one bit
 
@@ -209,4 +209,4 @@ module _ (i b b′ : ℕ) (o : OnlyAt i b b′) where
       let eb : bit b j ≡ bit b i = ap (bit b) e in
       let eb′ : bit b′ j ≡ bit b′ i = ap (bit b′) e in
       omega (arith, below-next b j, below-next b′ j, below-only-upto j g))
-      (lt-or-ge i j)
+      (lt? i j)

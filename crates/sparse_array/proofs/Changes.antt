@@ -18,7 +18,7 @@ use Rattle.sparse_array.specs.Changes.{Becomes, Changes, Sets, Removes}
 use Rattle.sparse_array.specs.declared.Place.the-variants.{At, Nothing}
 use Rattle.sparse_array.specs.declared.Changed.{Changed}
 use Rattle.sparse_array.specs.declared.Changed.the-variants.{Now, Refused}
-use Rattle.sparse_array.proofs.Order.{lt-or-ge, eq-or-ne}
+use Rattle.cases.proofs.Cases.{lt?, eq?}
 use Rattle.sparse_array.proofs.Bitmap.{bit-cases, OnlyAt, below-mono, below-set, below-own, below-size, below-only-upto, below-only-behind, or-only, or-there, xor-only, xor-there}
 use Rattle.sparse_array.proofs.Places.{Says}
 use Rattle.sparse_array.proofs.Room.{granted-both, refused-index, refused-room}
@@ -46,7 +46,7 @@ module _ (b b′ : ℕ) (w w′ : List ℕ) (i : ℕ) (o : OnlyAt i b b′) wher
       ⊎-elim
       (λ (e : j ≡ i). ap (holds b′ w′) e ∙ here ∙ sym (put-same (holds b w) i s) ∙ ap (put (holds b w) i s) (sym e))
       (λ (ne : j ≡ i → ⊥). shows-other fw j ne ∙ sym (put-other (holds b w) i s j ne))
-      (eq-or-ne j i)
+      (eq? j i)
 
   follows-inserted : (v : ℕ) → b < 2 ^ 64 → bit b i ≡ 0 → bit b′ i ≡ 1 → Inserted w (below b i) (sizeOf b) v w′ → Follows
   follows-inserted v f e e′ ins j ne ej =
@@ -55,7 +55,7 @@ module _ (b b′ : ℕ) (w w′ : List ℕ) (i : ℕ) (o : OnlyAt i b b′) wher
       (λ (g : i ≤ j).
       ap word-at {x = below b′ j} {y = suc (below b j)} (omega (arith, below-only-behind i b b′ o j (omega (arith, ne))))
       ∙ ins .behind (below b j) (below-mono b j g) (below-size b j f ej))
-      (lt-or-ge j i)
+      (lt? j i)
 
   follows-taken-out : b < 2 ^ 64 → bit b i ≡ 1 → bit b′ i ≡ 0 → TakenOut w (below b i) (sizeOf b) w′ → Follows
   follows-taken-out f e e′ out j ne ej =
@@ -65,7 +65,7 @@ module _ (b b′ : ℕ) (w w′ : List ℕ) (i : ℕ) (o : OnlyAt i b b′) wher
       let next : suc (below b′ j) ≡ below b j = omega (arith, below-only-behind i b b′ o j (omega (arith, ne))) in
       out .behind (below b′ j) (omega (arith, below-set b i j e (omega (arith, ne)))) (omega (arith, below-size b j f ej))
       ∙ ap (λ (k : ℕ). getD w k 0) next)
-      (lt-or-ge j i)
+      (lt? j i)
 
 -- A word stored at the rank of an index that holds one.
 pub becomes-replaced : (b : ℕ) (w : List ℕ) (i v : ℕ) → b < 2 ^ 64 → sizeOf b ≤ length w → bit b i ≡ 1
@@ -192,12 +192,12 @@ module _ (b : ℕ) (w : List ℕ) (A : ℕ → Slot) (b₁ b₂ : ℕ) (w₁ w�
       ⊎-elim
       (λ (l : k < sizeOf b). x .given-up k g l ∙ sym (y .given-up k (omega (arith, sizes)) l))
       (λ (q : sizeOf b ≤ k). x .rest k g q ∙ sym (y .rest k (omega (arith, sizes)) q))
-      (lt-or-ge k (sizeOf b))
+      (lt? k (sizeOf b))
 
   pub becomes-once : (b₁ ≡ b₂) × (w₁ ≡ w₂)
   becomes-once = (
     once .0,
-    ext-getD 0 w₁ w₂ (x .long ∙ sym (y .long)) (λ k h. ⊎-elim (word-packed k) (word-behind k) (lt-or-ge k (sizeOf b₁))),
+    ext-getD 0 w₁ w₂ (x .long ∙ sym (y .long)) (λ k h. ⊎-elim (word-packed k) (word-behind k) (lt? k (sizeOf b₁))),
   )
 
 -- `set` and `remove` have one answer, and leave one list of words.
@@ -230,4 +230,4 @@ others-zero b w A b′ w′ x z k h =
     ⊎-elim
     (λ (l : k < sizeOf b). x .given-up k h l)
     (λ (g : sizeOf b ≤ k). x .rest k h g ∙ z k g)
-    (lt-or-ge k (sizeOf b))
+    (lt? k (sizeOf b))

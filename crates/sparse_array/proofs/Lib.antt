@@ -1,4 +1,3 @@
-pub mod Order
 pub mod Bitmap
 pub mod Array
 pub mod Room

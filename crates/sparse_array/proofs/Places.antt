@@ -9,7 +9,7 @@ use Rattle.sparse_array.specs.Bitmap.{bit, below}
 use Rattle.sparse_array.specs.Places.{placeIf, placeOf}
 use Rattle.sparse_array.specs.declared.Place.{Place}
 use Rattle.sparse_array.specs.declared.Place.the-variants.{At, Nothing, Refused}
-use Rattle.sparse_array.proofs.Order.{lt-or-ge}
+use Rattle.cases.proofs.Cases.{lt?}
 use Rattle.sparse_array.proofs.Bitmap.{bit-cases}
 
 module _ (b i : ℕ) where
@@ -42,7 +42,7 @@ module _ (b i : ℕ) where
       (λ (e : bit b i ≡ 1). subst Says (sym (place-at h e)) (h, e, refl))
       (bit-cases b i))
       (λ (h : 64 ≤ i). subst Says (sym (place-refused h)) h)
-      (lt-or-ge i 64)
+      (lt? i 64)
 
   pub place-says : (p : Place) → p ≡ placeOf b i → Says p
   place-says p e = subst Says (sym e) said

@@ -8,7 +8,7 @@ use borrow.Author.Tests.{lt-ltb, le-ltb, le-leb, lt-leb}
 use lib.Dec.{ltb, leb}
 use lib.ListN.{length}
 use Rattle.sparse_array.specs.Room.{granted}
-use Rattle.sparse_array.proofs.Order.{lt-or-ge}
+use Rattle.cases.proofs.Cases.{lt?}
 
 module _ (i need : ℕ) (w : List ℕ) where
   pub granted-both : i < 64 → need ≤ length w → granted i need w ≡ true
@@ -27,9 +27,9 @@ module _ (i need : ℕ) (w : List ℕ) where
       ⊎-elim
       (λ (l : length w < need). absurd (true≢false (sym g ∙ refused-room l)))
       (λ (r : need ≤ length w). (h, r))
-      (lt-or-ge (length w) need))
+      (lt? (length w) need))
       (λ (h : 64 ≤ i). absurd (true≢false (sym g ∙ refused-index h)))
-      (lt-or-ge i 64)
+      (lt? i 64)
 
   pub refused-says : granted i need w ≡ false → (64 ≤ i) ⊎ (length w < need)
   refused-says g =
@@ -38,6 +38,6 @@ module _ (i need : ℕ) (w : List ℕ) where
       ⊎-elim
       (λ (l : length w < need). inr l)
       (λ (r : need ≤ length w). absurd (true≢false (sym (granted-both h r) ∙ g)))
-      (lt-or-ge (length w) need))
+      (lt? (length w) need))
       (λ (h : 64 ≤ i). inl h)
-      (lt-or-ge i 64)
+      (lt? i 64)

@@ -9,7 +9,7 @@ use native.Mathlib.Omega.{arith}
 use lib.ListN.{length, getD, set, length-set}
 use lib.Seq.{getD-set-same, getD-set-other}
 use Rattle.sparse_array.specs.Shift.{Inserted, TakenOut}
-use Rattle.sparse_array.proofs.Order.{eq-or-ne}
+use Rattle.cases.proofs.Cases.{eq?}
 
 -- The words between i and n have gone one place up.
 pub record Opened (w : List ℕ) (n i : ℕ) (w′ : List ℕ) : Type 0 where
@@ -34,7 +34,7 @@ module _ (w w′ : List ℕ) (n i : ℕ) (r : n < length w) (op : Opened w n i w
             ap (λ (x : ℕ). getD (set w′ i v) x 0) e ∙ getD-set-same w′ i v 0 (omega (arith, op .long)) ∙ op .upto (i - 1) (omega arith)
             ∙ ap (λ (x : ℕ). getD w x 0) {x = i - 1} {y = k} (omega arith))
             (λ (ne : suc k ≡ i → ⊥). getD-set-other w′ i (suc k) v 0 ne ∙ op .moved k (omega (arith, ne)) l)
-            (eq-or-ne (suc k) i);
+            (eq? (suc k) i);
         rest = λ k g. getD-set-other w′ i k v 0 (λ e. omega arith) ∙ op .rest k g;
         long = length-set w′ i v ∙ op .long;
       }
@@ -72,7 +72,7 @@ module _ (w w′ : List ℕ) (at i : ℕ) (p : at < i) (cl : Closed w at i w′)
             ap (λ (x : ℕ). getD (set w′ (i - 1) v) x 0) e ∙ getD-set-same w′ (i - 1) v 0 (omega (arith, cl .long)) ∙ cl .rest i (omega arith)
             ∙ ap (λ (x : ℕ). getD w x 0) {x = i} {y = suc k} (omega arith))
             (λ (ne : k ≡ i - 1 → ⊥). getD-set-other w′ (i - 1) k v 0 ne ∙ cl .moved k g (omega (arith, ne)))
-            (eq-or-ne k (i - 1));
+            (eq? k (i - 1));
         rest = λ k g. getD-set-other w′ (i - 1) k v 0 (λ e. omega arith) ∙ cl .rest k (omega arith);
         long = length-set w′ (i - 1) v ∙ cl .long;
       }

@@ -1,7 +1,7 @@
 //! The sparse array of a branch: 64 virtual indexes, of which those that hold a word are marked in a bitmap, and
 //! the words packed at the front of a lent slice in ascending order of their indexes.
 //!
-//! This is the lowest layer of the shelf: nothing stands below it. A branch cell's bitmap and child words are such
+//! This is a leaf of the shelf: no code stands below it. A branch cell's bitmap and child words are such
 //! an array; `bitmap` goes in and comes back by value, and `words` is the part of the arena that holds the children.
 //!
 //! A caller may rely on this of any bitmap and any slice: a call refuses an index of 64 or more, a slice that is

@@ -2,12 +2,13 @@
 -- Assumes nothing.
 use Prim.Native.Nat.{ℕ, zero, suc, _/_, _%_, _<_}
 use mathlib.Core.Path.{_≡_, refl, sym, _∙_, ap, ap₂, subst}
-use mathlib.Core.Bool.{Bool, true, false, and-eq-true-iff, true≢false}
+use mathlib.Core.Bool.{true, false, and-eq-true-iff, true≢false}
 use mathlib.Core.Logic.{_⊎_, inl, inr, ⊎-elim}
 use native.Mathlib.Nat.{mod-lt}
 use native.Mathlib.Omega.{arith}
 use lib.Dec.{leb}
 use borrow.Author.Tests.{leb-true, le-leb}
+use Rattle.cases.proofs.Cases.{split}
 use Rattle.tags.specs.declared.Class.{Class}
 use Rattle.tags.specs.declared.Class.the-variants.{Public, Creator, Element, Unassigned}
 use Rattle.tags.specs.Tags.{Within, Is, within, isPublic, isCreator, isElement, classOf}
@@ -21,17 +22,12 @@ within-yes : (first last e : ℕ) → Within first last e → within first last 
 unfolding within
 within-yes first last e w = and-eq-true-iff (leb first e) (leb e last) .1 (le-leb first e (w .0), le-leb e last (w .1))
 
-either : (t : Bool) → (t ≡ true) ⊎ (t ≡ false)
-either true = inl refl
-either false = inr refl
-
 within-no : (first last e : ℕ) → (Within first last e → ⊥) → within first last e ≡ false
-within-no first last e n = ⊎-elim (λ t. absurd (n (within-true first last e t))) (λ f. f) (either (within first last e))
+within-no first last e n = split (within first last e) (λ t. absurd (n (within-true first last e t))) (λ f. f)
 
 within? : (first last e : ℕ) → Within first last e ⊎ (Within first last e → ⊥)
 within? first last e =
-    ⊎-elim (λ t. inl (within-true first last e t)) (λ f. inr (λ w. true≢false (sym (within-yes first last e w) ∙ f)))
-    (either (within first last e))
+    split (within first last e) (λ t. inl (within-true first last e t)) (λ f. inr (λ w. true≢false (sym (within-yes first last e w) ∙ f)))
 
 -- So each test says what its sentence says.
 public-yes : (g : ℕ) → g % 2 ≡ 0 → isPublic g ≡ true

@@ -1,7 +1,7 @@
 //! Tag classes of DICOM data elements and the key under which a tag is stored.
 //!
 //! This is the outermost layer of the shelf: it turns a tag, a pair of 16-bit numbers, into a class and into
-//! a 64-bit key. Nothing stands below it: the trie knows only the key.
+//! a 64-bit key. No code stands below it, and the trie knows only the key.
 //!
 //! A caller may rely on this, for every pair of numbers and with nothing to show first:
 //! - `class_of` answers `classOf`, and the laws in proofs/TagLaws.antt say that this is the one class that the

@@ -8,6 +8,7 @@ use mathlib.Core.List.{List, [], _∷_, _++_}
 use Prim.Native.Nat.{ℕ, suc, _^_, _<_}
 use native.Mathlib.Omega.{arith}
 use borrow.Author.Tests.{eq-eqb, ne-eqb}
+use Rattle.cases.proofs.Cases.{eq?}
 use Rattle.trie.specs.Built.{unnamed, Built, nothing, inserted, removed}
 use Rattle.trie.specs.Canon.{Some, Busy, Under, In, Canon, Canonical}
 use Rattle.trie.specs.Entry.{Entry, Word64, matches, got}
@@ -18,7 +19,6 @@ use Rattle.trie.proofs.ListingLaws.{listing-under}
 use Rattle.trie.proofs.MapLaws.{removal, Removal, taken-out, remove-there, canonical-insert, canonical-remove, map-lists-insert, map-lists-remove, map-listing-once, map-listing-ordered, get-insert-same}
 use Rattle.trie.proofs.OrderLaws.{place-none, place-left, place-cut}
 use Rattle.trie.proofs.RemoveCanon.{canon-full, root-remove}
-use Rattle.trie.proofs.Tests.{eq?}
 use Rattle.trie.proofs.Unique.{begins, Begins, canon-lists, node-unique, branch-unique}
 
 -- every entry has another with its hash

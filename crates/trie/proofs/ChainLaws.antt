@@ -4,10 +4,11 @@ use mathlib.Core.Bool.{true, false}
 use mathlib.Core.List.{List, [], _∷_}
 use Prim.Native.Nat.{ℕ, suc}
 use native.Mathlib.Omega.{arith}
+use Rattle.cases.proofs.Cases.{split}
 use Rattle.trie.specs.Canon.{AllItems, Distinct}
 use Rattle.trie.specs.Entry.{Entry, matches, Got, absent, got, ifGot}
 use Rattle.trie.specs.Trie.{Item, item, find, copied, list-remove-first}
-use Rattle.trie.proofs.Tests.{split, matches-true}
+use Rattle.trie.proofs.Matches.{matches-true}
 
 byGot : {A : Type 0} (o : Got) (a b : A) (P : A → Type 0) → P a → P b → P (ifGot o a b)
 unfolding ifGot

@@ -9,13 +9,13 @@ use native.Mathlib.Omega.{arith}
 use lib.Dec.{eqb}
 use lib.ListN.{length}
 use borrow.Author.Tests.{eqb-true, eq-eqb}
+use Rattle.cases.proofs.Cases.{split}
 use Rattle.trie.specs.Canon.{Canonical}
 use Rattle.trie.specs.Entry.{Entry, Got, absent, got}
 use Rattle.trie.specs.Listing.{All, lookup, Once, SameSet}
 use Rattle.trie.specs.Trie.{Map, listing, size, answers, every, get, equal}
 use Rattle.trie.proofs.MapLaws.{map-listing-get, map-listing-once}
 use Rattle.trie.proofs.SetLaws.{Agree, agree-same-set, agree-length, agree-inside, inside-agree}
-use Rattle.trie.proofs.Tests.{split}
 
 every-all : (p : Entry → Bool) (P : Entry → Type 0) → ((e : Entry) → p e ≡ true → P e) → (xs : List Entry) → every p xs ≡ true
     → All P xs

@@ -5,14 +5,15 @@ use mathlib.Core.List.{List, [], _∷_}
 use Prim.Native.Nat.{ℕ, zero, suc}
 use native.Mathlib.Omega.{arith}
 use lib.ListN.{length}
+use Rattle.cases.proofs.Cases.{split, Tri, is-less, is-equal, is-more, tri}
 use Rattle.trie.specs.Canon.{Above, Asc, AllKids, Some, Big, Busy, AllItems, Distinct, NonEmpty, Under, In, Canon}
 use Rattle.trie.specs.Entry.{Entry, matches, Got, absent, got, ifGot}
 use Rattle.trie.specs.Trie.{Item, leaf, single, Node, Kids, none, kid, found, child, put, item, find, copied, list-remove-first, push-front, insertNode, every}
 use Rattle.trie.proofs.ChainLaws.{find-miss, copied-hit, copied-miss, find-removed-same, all-removed, distinct-removed}
 use Rattle.trie.proofs.InsertCases.{single-down, InsertCase, in-chain, replaced, deeper, apart, new-child, in-child, insert-case}
 use Rattle.trie.proofs.KidsLaws.{put-less, put-more, asc-put, all-put, all-child, some-put, busy-put}
+use Rattle.trie.proofs.Matches.{not-both}
 use Rattle.trie.proofs.PathLaws.{find-none}
-use Rattle.trie.proofs.Tests.{split, Tri, is-less, is-equal, is-more, tri, not-both}
 
 -- what may be asked of a branch's children: of a root's, and of all others'
 pub record Ask {X : Type 0} (Q : Kids X → Type 0) : Type 0 where

@@ -7,12 +7,12 @@ use mathlib.Core.List.{List, [], _∷_}
 use Prim.Native.Nat.{ℕ, zero, suc}
 use lib.ListN.{length}
 use borrow.Author.Tests.{eq-eqb, ne-eqb}
+use Rattle.cases.proofs.Cases.{split, eq?}
 use Rattle.trie.specs.Canon.{Asc, AllKids, Busy, AllItems, Distinct, NonEmpty, Under, In, Canon}
 use Rattle.trie.specs.Entry.{Entry, matches}
 use Rattle.trie.specs.Trie.{branch, Item, leaf, single, Node, Kids, none, kid, Found, missing, found, onFound, child, put, push-front, insertNode}
 use Rattle.trie.proofs.KidsLaws.{all-child}
 use Rattle.trie.proofs.PathLaws.{find-none}
-use Rattle.trie.proofs.Tests.{split, eq?}
 
 -- at a leaf above the last depth
 module _ (seg : ℕ → ℕ → ℕ) {X : Type 0} (b : ℕ → X) (f : ℕ → X) (n t : ℕ) (e : Entry) (x : Item X) (xs : List (Item X)) where

@@ -4,9 +4,9 @@ use mathlib.Core.Logic.{_⊎_, inl, inr}
 use Prim.Native.Nat.{ℕ, _<_, _≤_}
 use native.Mathlib.Omega.{arith}
 use borrow.Author.Tests.{eq-eqb, ne-eqb, lt-ltb, le-ltb}
+use Rattle.cases.proofs.Cases.{eq?, Tri, is-less, is-equal, is-more, tri}
 use Rattle.trie.specs.Canon.{Above, Asc, AllKids, Some, Big, Busy}
 use Rattle.trie.specs.Trie.{Node, Kids, none, kid, missing, found, child, put, take-out}
-use Rattle.trie.proofs.Tests.{Tri, is-less, is-equal, is-more, tri, eq?}
 
 module _ {X : Type 0} where
   pub found-missing : (m : Node X) → missing ≡ found m → ⊥

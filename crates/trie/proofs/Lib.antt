@@ -1,4 +1,4 @@
-pub mod Tests
+pub mod Matches
 pub mod KidsLaws
 pub mod ChainLaws
 pub mod PathLaws

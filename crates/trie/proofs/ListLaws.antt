@@ -5,9 +5,10 @@ use mathlib.Core.List.{List, [], _∷_, _++_}
 use Prim.Native.Nat.{ℕ, _+_}
 use native.Mathlib.Omega.{arith}
 use lib.ListN.{length}
+use Rattle.cases.proofs.Cases.{split}
 use Rattle.trie.specs.Entry.{Entry, matches, Got, absent, got, ifGot}
 use Rattle.trie.specs.Listing.{All, lookup, Pairwise, Once, cut}
-use Rattle.trie.proofs.Tests.{split, matches-true}
+use Rattle.trie.proofs.Matches.{matches-true}
 
 -- THE HEAD
 pub lookup-hit : (h k : ℕ) (e : Entry) (es : List Entry) → matches h k e ≡ true → lookup h k (e ∷ es) ≡ got (e .value)
@@ -87,6 +88,12 @@ pub pairwise-append : (R : Entry → Entry → Type 0) (xs ys : List Entry) → 
 unfolding Pairwise All
 pairwise-append R [] ys a b c = b
 pairwise-append R (x ∷ xs) ys (p, a) b (q, c) = (all-append (R x) xs ys p q, pairwise-append R xs ys a b c)
+
+pub pairwise-of-all : (R : Entry → Entry → Type 0) (P : Entry → Type 0) → ((x y : Entry) → P x → P y → R x y) → (xs : List Entry)
+    → All P xs → Pairwise R xs
+unfolding Pairwise All
+pairwise-of-all R P f [] a = tt
+pairwise-of-all R P f (x ∷ xs) (p, a) = (all-weak P (R x) (λ y q. f x y p q) xs a, pairwise-of-all R P f xs a)
 
 pub pairwise-weak : (R S : Entry → Entry → Type 0) (P : Entry → Type 0) → ((x y : Entry) → P x → P y → R x y → S x y)
     → (xs : List Entry) → All P xs → Pairwise R xs → Pairwise S xs

@@ -6,6 +6,7 @@ use mathlib.Core.List.{List, [], _∷_, _++_, append-assoc}
 use Prim.Native.Nat.{ℕ, zero, suc, _<_, _≤_}
 use native.Mathlib.Omega.{arith}
 use lib.ListN.{length}
+use Rattle.cases.proofs.Cases.{split, Tri, is-less, is-equal, is-more, tri}
 use Rattle.trie.specs.Canon.{Above, Asc, AllKids, Busy, AllItems, Distinct, Under, In, Canon}
 use Rattle.trie.specs.Entry.{Entry, matches, Got, absent, got, ifGot}
 use Rattle.trie.specs.Listing.{All, lookup, Pairwise, Once, cut, earlier, Ordered}
@@ -13,9 +14,9 @@ use Rattle.trie.specs.Trie.{branch, Item, leaf, chain, Node, Kids, none,
 use Rattle.trie.proofs.ChainLaws.{copied-hit, copied-miss}
 use Rattle.trie.proofs.KidsLaws.{child-hit, child-miss, put-hit, put-less, put-more, take-hit, take-miss, child-above, above-asc, take-missing, all-child}
 use Rattle.trie.proofs.ListLaws.{cut-hit, cut-miss, all-append, all-weak, Unmatched, absent-unmatched, lookup-skip, lookup-left, cut-skip, cut-none, cut-left, pairwise-append}
+use Rattle.trie.proofs.Matches.{matches-hash}
 use Rattle.trie.proofs.OrderLaws.{earlier-high, ordered-down, ordered-last}
 use Rattle.trie.proofs.PathLaws.{hop-found, hop-missing}
-use Rattle.trie.proofs.Tests.{split, Tri, is-less, is-equal, is-more, tri, matches-hash}
 
 -- CHAINS
 module _ {X : Type 0} where
@@ -24,7 +25,7 @@ module _ {X : Type 0} where
   lookup-chain h k [] = refl
   lookup-chain h k (x ∷ xs) = rw (lookup-chain h k xs)
 
-  all-chain : (P : Entry → Type 0) (xs : List (Item X)) → AllItems P xs → All P (listingChain xs)
+  pub all-chain : (P : Entry → Type 0) (xs : List (Item X)) → AllItems P xs → All P (listingChain xs)
   unfolding All listingChain AllItems
   all-chain P [] a = tt
   all-chain P (x ∷ xs) (p, a) = (p, all-chain P xs a)

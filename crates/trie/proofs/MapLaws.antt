@@ -7,6 +7,7 @@ use mathlib.Core.List.{List, [], _∷_}
 use Prim.Native.Nat.{ℕ, suc, _+_}
 use native.Mathlib.Omega.{arith}
 use lib.ListN.{length}
+use Rattle.cases.proofs.Cases.{split}
 use Rattle.trie.specs.Canon.{Above, Asc, AllKids, Some, Busy, Under, Canon, Canonical}
 use Rattle.trie.specs.Entry.{Entry, Got, absent, got, ifGot}
 use Rattle.trie.specs.Listing.{lookup, Pairwise, Once, cut, place, Ordered}
@@ -15,9 +16,9 @@ use Rattle.trie.proofs.InsertCanon.{ask-some, canon-single, canon-inser
 use Rattle.trie.proofs.ListLaws.{cut-other, cut-same, cut-found}
 use Rattle.trie.proofs.ListingLaws.{listing-get, listing-once, listing-ordered}
 use Rattle.trie.proofs.ListingUpdates.{listing-insert, listing-remove}
+use Rattle.trie.proofs.Matches.{matches-other, matches-one}
 use Rattle.trie.proofs.OrderLaws.{place-none, place-same, place-other, place-length}
 use Rattle.trie.proofs.RemoveCanon.{canon-root, root-remove}
-use Rattle.trie.proofs.Tests.{split, matches-other, matches-one}
 
 -- the depths are suc d
 module _ (seg : ℕ → ℕ → ℕ) (d : ℕ) (W : Entry → Type 0) {X : Type 0} where

@@ -6,10 +6,11 @@ use Prim.Native.Nat.{ℕ, zero, suc, _+_, _<_}
 use native.Mathlib.Omega.{arith}
 use lib.ListN.{length}
 use borrow.Author.Tests.{eq-eqb, ne-eqb, lt-ltb, le-ltb}
+use Rattle.cases.proofs.Cases.{split}
 use Rattle.trie.specs.Entry.{Entry, matches, got, ifGot}
 use Rattle.trie.specs.Listing.{All, lookup, Pairwise, cut, earlier, place, Ordered}
 use Rattle.trie.proofs.ListLaws.{lookup-hit, lookup-miss, cut-hit, cut-miss, Unmatched, cut-none, cut-left, pairwise-weak, cut-other, cut-length}
-use Rattle.trie.proofs.Tests.{split, matches-true, matches-self, matches-apart}
+use Rattle.trie.proofs.Matches.{matches-true, matches-self, matches-apart}
 
 module _ (seg : ℕ → ℕ → ℕ) where
   -- ONE DEPTH: where the segments agree the next depth decides, else the lower one is earlier

@@ -6,6 +6,7 @@ use mathlib.Core.List.{List, [], _∷_}
 use Prim.Native.Nat.{ℕ, zero, suc}
 use native.Mathlib.Omega.{arith}
 use lib.ListN.{length}
+use Rattle.cases.proofs.Cases.{split}
 use Rattle.trie.specs.Canon.{Asc, AllKids, Some, Big, Busy, AllItems, NonEmpty, Under, In, Canon}
 use Rattle.trie.specs.Entry.{Entry, matches, got, ifGot}
 use Rattle.trie.specs.Trie.{branch, Item, leaf, Node, Kids, none, kid, found, child, put, take-out, list-remove-first, getNode, is-empty, is-single, settle, compress, removeNode, every}
@@ -14,7 +15,6 @@ use Rattle.trie.proofs.InsertCanon.{busy-some, removed-two, removed-abs
 use Rattle.trie.proofs.KidsLaws.{asc-put, asc-take, all-put, all-take, all-child, some-put, some-take}
 use Rattle.trie.proofs.PathLaws.{find-none, hop-missing}
 use Rattle.trie.proofs.RemoveCases.{settle-empty, settle-full, RemoveCase, at-leaf, not-below, below, remove-case}
-use Rattle.trie.proofs.Tests.{split}
 
 module _ (seg : ℕ → ℕ → ℕ) (W : Entry → Type 0) {X : Type 0} where
   pub single-up : (n : ℕ) (path : List ℕ) (s : ℕ) (x : Item X) → Canon seg W Busy n (s ∷ path) (leaf (x ∷ []))

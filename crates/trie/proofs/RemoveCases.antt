@@ -5,11 +5,11 @@ use mathlib.Core.Bool.{true, false}
 use mathlib.Core.List.{List, [], _∷_}
 use Prim.Native.Nat.{ℕ, zero, suc}
 use lib.ListN.{length}
+use Rattle.cases.proofs.Cases.{split}
 use Rattle.trie.specs.Canon.{Asc, AllKids, Busy, Canon}
 use Rattle.trie.specs.Entry.{Entry}
 use Rattle.trie.specs.Trie.{branch, Item, leaf, Node, Kids, none, kid, Found, missing, found, onFound, child, put, take-out, list-remove-first, is-empty, is-single, settle, compress, removeNode}
 use Rattle.trie.proofs.KidsLaws.{child-put-other, child-take-other, all-child}
-use Rattle.trie.proofs.Tests.{split}
 
 -- at a branch, and at a leaf
 module _ (seg : ℕ → ℕ → ℕ) {X : Type 0} (b : ℕ → X) (f : ℕ → X) (n t h k : ℕ) (c : X) (ks : Kids X) where

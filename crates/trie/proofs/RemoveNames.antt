@@ -5,6 +5,7 @@ use mathlib.Core.List.{List, [], _∷_}
 use Prim.Native.Nat.{ℕ, suc, _+_}
 use native.Mathlib.Omega.{arith}
 use lib.ListN.{length}
+use Rattle.cases.proofs.Cases.{eq?}
 use Rattle.trie.specs.Canon.{Asc}
 use Rattle.trie.specs.Cells.{before, along}
 use Rattle.trie.specs.Entry.{Entry, got}
@@ -16,7 +17,6 @@ use Rattle.trie.proofs.PathNames.{along-leaf, along-found, along-missin
 use Rattle.trie.proofs.RemoveCanon.{Left, settle-left, remove-left}
 use Rattle.trie.proofs.RemoveCases.{lone, Pressed, stays, pressed, RemoveCase, at-leaf, not-below, below}
 use Rattle.trie.proofs.Sums.{removed-cells, gone-absent, before-absent, total-only, put-old, take-old}
-use Rattle.trie.proofs.Tests.{eq?}
 
 module _ (seg : ℕ → ℕ → ℕ) (W : Entry → Type 0) {X : Type 0} where
   -- the sums over settled children

@@ -6,10 +6,11 @@ use mathlib.Core.List.{List, [], _∷_, List·Memᴰ, List·Memᴰ·head, List·
 use Prim.Native.Nat.{ℕ}
 use native.Mathlib.Omega.{arith}
 use lib.ListN.{length}
+use Rattle.cases.proofs.Cases.{split}
 use Rattle.trie.specs.Entry.{Entry, matches, Got, absent, got}
 use Rattle.trie.specs.Listing.{All, lookup, Pairwise, Once, cut, SameSet}
 use Rattle.trie.proofs.ListLaws.{lookup-hit, lookup-miss, Unmatched, unmatched-absent, cut-other, cut-same, cut-pairwise, cut-found}
-use Rattle.trie.proofs.Tests.{split, matches-true, matches-self, matches-apart}
+use Rattle.trie.proofs.Matches.{matches-true, matches-self, matches-apart}
 
 -- a member, and its answer
 pub mem-lookup : (e : Entry) (xs : List Entry) → Once xs → List·Memᴰ e xs → lookup (e .hash) (e .key) xs ≡ got (e .value)

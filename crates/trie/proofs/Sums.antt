@@ -5,6 +5,7 @@ use mathlib.Core.Logic.{_⊎_, inl, inr, ⊎-elim}
 use mathlib.Core.List.{List, [], _∷_}
 use Prim.Native.Nat.{ℕ, zero, suc, _+_, _≤_}
 use native.Mathlib.Omega.{arith}
+use Rattle.cases.proofs.Cases.{split, eq?, Tri, is-less, is-equal, is-more, tri}
 use Rattle.trie.specs.Canon.{Asc}
 use Rattle.trie.specs.Cells.{before, ahead}
 use Rattle.trie.specs.Entry.{matches, Got, absent, got, ifGot}
@@ -12,7 +13,6 @@ use Rattle.trie.specs.Names.{cells, total, totals, news, upto, gone}
 use Rattle.trie.specs.Trie.{branch, Item, Node, Kids, none, kid, missing, found, onFound, child, put, take-out, find, copied, list-remove-first}
 use Rattle.trie.proofs.ChainLaws.{find-hit, copied-hit, copied-miss}
 use Rattle.trie.proofs.KidsLaws.{child-hit, child-miss, put-hit, put-less, put-more, take-hit, take-miss, child-above, above-asc}
-use Rattle.trie.proofs.Tests.{split, Tri, is-less, is-equal, is-more, tri, eq?}
 
 module _ {X : Type 0} (w : X → ℕ) (h k : ℕ) where
   -- chains

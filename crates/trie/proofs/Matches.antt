@@ -1,33 +1,12 @@
--- Going by cases: on a test, on two numbers, and on whether an entry matches a key.
+-- Whether an entry matches a hash and a key: what the test says, and that no entry matches two keys.
 use mathlib.Core.Path.{_≡_, refl, sym, _∙_}
 use mathlib.Core.Bool.{Bool, true, false, cond}
-use mathlib.Core.Logic.{_⊎_, inl, inr}
-use Prim.Native.Nat.{ℕ, _<_}
+use Prim.Native.Nat.{ℕ}
 use native.Mathlib.Omega.{arith}
-use lib.Dec.{eqb, ltb}
-use borrow.Author.Tests.{eqb-true, eqb-false, ltb-true, ltb-false, eq-eqb, ne-eqb}
+use lib.Dec.{eqb}
+use borrow.Author.Tests.{eqb-true, eq-eqb, ne-eqb}
+use Rattle.cases.proofs.Cases.{split}
 use Rattle.trie.specs.Entry.{Entry, matches}
-
--- to go by cases on a test, with what it says
-pub split : {A : Type 0} → (b : Bool) → (b ≡ true → A) → (b ≡ false → A) → A
-split true f g = f refl
-split false f g = g refl
-
--- three ways for two numbers
-pub data Tri (a b : ℕ) : Type 0 where
-  is-less : a < b → Tri a b
-  is-equal : a ≡ b → Tri a b
-  is-more : b < a → Tri a b
-
-pub tri : (a b : ℕ) → Tri a b
-tri a b = split (eqb a b) (λ e. is-equal (eqb-true a b e))
-    (λ ne. split (ltb a b) (λ l. is-less (ltb-true a b l)) (λ nl. is-more (go ne nl)))
-  where
-    go : eqb a b ≡ false → ltb a b ≡ false → b < a
-    go ne nl = let h : a ≡ b → ⊥ = eqb-false a b ne in omega (arith, ltb-false a b nl)
-
-pub eq? : (a b : ℕ) → (a ≡ b) ⊎ (a ≡ b → ⊥)
-eq? a b = split (eqb a b) (λ e. inl (eqb-true a b e)) (λ e. inr (eqb-false a b e))
 
 -- the test on keys
 pub matches-true : (h k : ℕ) (e : Entry) → matches h k e ≡ true → (e .hash ≡ h) × (e .key ≡ k)
