@@ -1,22 +1,21 @@
 //! The six rows of the table, and some degrees that are not in it.
-use crate::text;
 use segments::DegreeRow;
 
 fn row(degree: u64) {
-    text::decimal(b"  degree ", degree);
+    print::decimal(b"  degree ", degree);
     match segments::degree_row(degree) {
         DegreeRow::Found { bits, depths, last } => {
-            text::decimal(b": bits ", bits);
-            text::decimal(b", depths ", depths);
-            text::decimal(b", bits at the last depth ", last);
+            print::decimal(b": bits ", bits);
+            print::decimal(b", depths ", depths);
+            print::decimal(b", bits at the last depth ", last);
         }
-        DegreeRow::NotInTable => text::say(b": refused"),
+        DegreeRow::NotInTable => print::say(b": refused"),
     }
-    text::say(b"\n");
+    print::say(b"\n");
 }
 
 pub fn show() {
-    text::say(b"Degrees\n");
+    print::say(b"Degrees\n");
     row(2);
     row(4);
     row(8);

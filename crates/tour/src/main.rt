@@ -5,7 +5,6 @@ mod classes;
 mod degrees;
 mod paths;
 mod sparse;
-mod text;
 
 fn main() {
     degrees::show();

@@ -1,20 +1,19 @@
 //! The paths of the shelf table's hashes, segment by segment.
-use crate::text;
 use segments::Index;
 
 // Prints the segment at a depth and answers whether there is one.
 fn step(hash: u64, depth: u64, degree: u64) -> bool {
     match segments::index_from_hash(hash, depth, degree) {
         Index::At(segment) => {
-            text::hex(b" ", segment, 1);
+            print::hex(b" ", segment, 1);
             true
         }
         Index::Exhausted => {
-            text::decimal(b", exhausted at depth ", depth);
+            print::decimal(b", exhausted at depth ", depth);
             false
         }
         Index::NoSuchDegree => {
-            text::say(b" no such degree");
+            print::say(b" no such degree");
             false
         }
     }
@@ -32,15 +31,15 @@ fn walk(hash: u64, degree: u64) {
 }
 
 fn path(hash: u64, degree: u64) {
-    text::decimal(b"  degree ", degree);
-    text::hex(b", hash ", hash, 1);
-    text::say(b":");
+    print::decimal(b"  degree ", degree);
+    print::hex(b", hash ", hash, 1);
+    print::say(b":");
     walk(hash, degree);
-    text::say(b"\n");
+    print::say(b"\n");
 }
 
 pub fn show() {
-    text::say(b"Paths (hash and segments in hex)\n");
+    print::say(b"Paths (hash and segments in hex)\n");
     path(0x26, 16);
     path(0x16, 16);
     path(0x42, 16);

@@ -1,13 +1,12 @@
 //! A sparse array of three words: set out of order, read, written over, taken from, and refused.
-use crate::text;
 use sparse_array::Changed;
 use sparse_array::Found;
 
 fn packed(words: &[u64]) {
-    text::say(b": words");
+    print::say(b": words");
     let mut i = 0;
     while i < words.len() {
-        text::hex(b" ", words[i], 1);
+        print::hex(b" ", words[i], 1);
         i += 1;
     }
 }
@@ -16,41 +15,41 @@ fn packed(words: &[u64]) {
 fn outcome(before: u64, changed: Changed) -> u64 {
     match changed {
         Changed::Now(bitmap) => {
-            text::hex(b", bitmap ", bitmap, 16);
-            text::say(b"\n");
+            print::hex(b", bitmap ", bitmap, 16);
+            print::say(b"\n");
             bitmap
         }
         Changed::Refused => {
-            text::say(b", refused\n");
+            print::say(b", refused\n");
             before
         }
     }
 }
 
 fn set(bitmap: u64, words: &mut [u64], index: u64, value: u64) -> u64 {
-    text::decimal(b"  set ", index);
-    text::hex(b" to ", value, 1);
+    print::decimal(b"  set ", index);
+    print::hex(b" to ", value, 1);
     let changed = sparse_array::set(bitmap, words, index, value);
     packed(words);
     outcome(bitmap, changed)
 }
 
 fn remove(bitmap: u64, words: &mut [u64], index: u64) -> u64 {
-    text::decimal(b"  remove ", index);
+    print::decimal(b"  remove ", index);
     let changed = sparse_array::remove(bitmap, words, index);
     packed(words);
     outcome(bitmap, changed)
 }
 
 fn get(bitmap: u64, words: &[u64], index: u64) {
-    text::decimal(b"  get ", index);
+    print::decimal(b"  get ", index);
     match sparse_array::get(bitmap, words, index) {
         Found::Word(word) => {
-            text::hex(b": ", word, 1);
-            text::say(b"\n");
+            print::hex(b": ", word, 1);
+            print::say(b"\n");
         }
-        Found::Nothing => text::say(b": nothing\n"),
-        Found::Refused => text::say(b": refused\n"),
+        Found::Nothing => print::say(b": nothing\n"),
+        Found::Refused => print::say(b": refused\n"),
     }
 }
 
@@ -84,7 +83,7 @@ fn take_out(bitmap: u64, words: &mut [u64]) -> u64 {
 }
 
 pub fn show() {
-    text::say(b"A sparse array of three words (words and bitmap in hex)\n");
+    print::say(b"A sparse array of three words (words and bitmap in hex)\n");
     let mut words = [0u64; 3];
     let full = fill(&mut words);
     read(full, &words);

@@ -1,4 +1,5 @@
-//! What the tour prints with: pieces of text and labelled numbers, to standard output.
+//! What the programs print with: pieces of text and labelled numbers, to standard output. A layer of the programs, beside
+//! the shelf.
 use libc::STDOUT_FILENO;
 
 pub fn say(text: &[u8]) {

@@ -1,0 +1,99 @@
+//! What the crate keeps private, made visible: the nodes of a map as they stand, with the address of each, and the two
+//! modules that the map is made of.
+use super::*;
+
+/// A node of a map.
+#[derive(Debug)]
+pub enum Seen<'a, K, V> {
+    /// A branch: its address, and its children with their segments, in ascending order.
+    Branch(usize, Vec<(usize, Seen<'a, K, V>)>),
+    /// A leaf with one entry.
+    Single(SeenEntry<'a, K, V>),
+    /// A leaf with a collision, its front first.
+    Collision(Vec<SeenEntry<'a, K, V>>),
+}
+
+/// An entry of a map.
+#[derive(Debug)]
+pub struct SeenEntry<'a, K, V> {
+    /// The address of key and value. Copies of the list around an entry leave it where it is.
+    pub address: usize,
+    /// The address of what holds the entry: its node in the list of a collision, or the leaf.
+    pub holder: usize,
+    pub hash: u64,
+    pub key: &'a K,
+    pub value: &'a V,
+}
+
+fn see_entry<'a, K, V, P: SharedPointerKind>(entry: &'a EntryWithHash<K, V, P>, holder: usize) -> SeenEntry<'a, K, V> {
+    let address = SharedPointer::as_ptr(&entry.entry) as usize;
+    SeenEntry { address, holder, hash: entry.key_hash, key: &entry.entry.key, value: &entry.entry.value }
+}
+
+fn see_node<K, V, P: SharedPointerKind>(node: &SharedPointer<Node<K, V, P>, P>, degree: u8) -> Seen<'_, K, V> {
+    let address = SharedPointer::as_ptr(node) as usize;
+    match &**node {
+        Node::Branch(subtrees) => {
+            let child = |index| subtrees.get(index).map(|subtree| (index, see_node(subtree, degree)));
+            let children: Vec<_> = (0..usize::from(degree)).filter_map(child).collect();
+            assert_eq!(children.len(), subtrees.size(), "a branch has children beyond the degree");
+            Seen::Branch(address, children)
+        }
+        Node::Leaf(Bucket::Single(entry)) => Seen::Single(see_entry(entry, address)),
+        Node::Leaf(Bucket::Collision(entries)) => {
+            // the list's nodes are private; the pointer that an iteration lends lies inside one
+            let seen = entries.iter_ptr().map(|held| see_entry(&**held, core::ptr::from_ref(held) as usize));
+            Seen::Collision(seen.collect())
+        }
+    }
+}
+
+/// The nodes of a map, from its root.
+pub fn see<K, V, P: SharedPointerKind, H: BuildHasher>(map: &HashTrieMap<K, V, P, H>) -> Seen<'_, K, V> {
+    see_node(&map.root, map.degree)
+}
+
+/// The crate's `index_from_hash`.
+pub fn index_from_hash(hash: u64, depth: usize, degree: u8) -> Option<usize> {
+    node_utils::index_from_hash(hash, depth, degree)
+}
+
+/// The crate's sparse array, of numbers.
+#[derive(Debug)]
+pub struct Sparse(SparseArrayUsize<u64>);
+
+impl Sparse {
+    #[allow(clippy::new_without_default)]
+    pub fn new() -> Sparse {
+        Sparse(SparseArrayUsize::new())
+    }
+
+    pub fn get(&self, index: usize) -> Option<u64> {
+        self.0.get(index).copied()
+    }
+
+    pub fn first(&self) -> Option<u64> {
+        self.0.first().copied()
+    }
+
+    pub fn pop(&mut self) -> Option<u64> {
+        self.0.pop()
+    }
+
+    pub fn set(&mut self, index: usize, value: u64) {
+        self.0.set(index, value);
+    }
+
+    pub fn remove(&mut self, index: usize) {
+        self.0.remove(index);
+    }
+
+    pub fn size(&self) -> usize {
+        self.0.size()
+    }
+
+    /// The words as they are packed.
+    pub fn words(&self) -> Vec<u64> {
+        self.0.iter().copied().collect()
+    }
+}
