@@ -1,7 +1,9 @@
 //! The answers on editions at one degree: that the file is whole and each line what its letter asks for, that no arena is
 //! too large for a program to hold, and that the crate lists in the order of our segments.
-use crate::count;
+use crate::score::Score;
+use crate::score::count;
 use answers::Line;
+use segments::Index;
 ghost use Prim.Native.Nat.{_*_, _≤_};
 
 // A program holds an arena of this many words at most.
@@ -11,15 +13,12 @@ const MOST_WORDS: u64 = 8192;
 // hash of the one before them, where there is one.
 struct Tally {
     degree: u64,
-    calls: u64,
     entries: u64,
     listing: u64,
     is_first: bool,
     last: u64,
     largest: u64,
-    wrong: u64,
-    // what the last line says of the calls; the largest number before it is read
-    total: u64,
+    score: Score,
 }
 
 // How many arguments a call has; none has nine.
@@ -60,9 +59,9 @@ fn words(degree: u64, branches: u64, entries: u64, editions: u64) -> u64 {
 
 fn segment(hash: u64, depth: u64, degree: u64) -> u64 {
     match segments::index_from_hash(hash, depth, degree) {
-        segments::Index::At(segment) => segment,
-        segments::Index::Exhausted => 0,
-        segments::Index::NoSuchDegree => 0,
+        Index::At(segment) => segment,
+        Index::Exhausted => 0,
+        Index::NoSuchDegree => 0,
     }
 }
 
@@ -88,33 +87,41 @@ impl Tally {
     fn new(degree: u64) -> Self {
         Tally {
             degree: degree,
-            calls: 0,
             entries: 0,
             listing: 0,
             is_first: true,
             last: 0,
             largest: 0,
-            wrong: 0,
-            total: u64::MAX,
+            score: Score::new(),
         }
     }
 
-    fn see(mut self, right: bool) -> Self {
-        if !right {
-            self.wrong = count(self.wrong);
-        }
+    fn scored(mut self, score: Score) -> Self {
+        self.score = score;
         self
     }
 
-    fn call(mut self, arguments: usize, numbers: usize) -> Self {
-        self.calls = count(self.calls);
+    fn see(self, right: bool) -> Self {
+        let score = self.score;
+        self.scored(score.see(right))
+    }
+
+    fn end(self, total: u64) -> Self {
+        let score = self.score;
+        self.scored(score.end(total))
+    }
+
+    // A call has all its numbers, and the listing before it has shown all its entries.
+    fn call(self, arguments: usize, numbers: usize) -> Self {
+        let called = self.score;
+        let score = called.call();
         if 0 < self.listing {
-            return self.see(false);
+            return self.scored(score.see(false));
         }
         if 4 < arguments {
-            return self.see(false);
+            return self.scored(score.see(false));
         }
-        self.see(arguments + 4 == numbers)
+        self.scored(score.see(arguments + 4 == numbers))
     }
 
     fn format(mut self, numbers: [u64; 8]) -> Self {
@@ -146,11 +153,6 @@ impl Tally {
         self.see(right && numbers == 3)
     }
 
-    fn end(mut self, total: u64) -> Self {
-        self.total = total;
-        self
-    }
-
     fn line(self, line: Line) -> Self {
         let numbers = line.numbers;
         let count = line.count;
@@ -166,17 +168,14 @@ impl Tally {
     }
 
     fn show(self) {
-        print::decimal(b": calls ", self.calls);
-        print::decimal(b", entries listed ", self.entries);
+        print::decimal(b": entries listed ", self.entries);
         print::decimal(b", words of the largest arena ", self.largest);
-        print::decimal(b", wrong ", self.wrong);
-        if self.calls != self.total {
-            print::say(b", not whole");
-        }
-        print::say(b"\n");
+        let score = self.score;
+        score.show();
     }
 }
 
+// Reads a file.
 pub fn replay(text: &[u8], degree: u64) {
     let mut tally = Tally::new(degree);
     let mut at = 0;

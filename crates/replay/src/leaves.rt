@@ -1,5 +1,6 @@
 //! The answers on `index_from_hash` and on the sparse array, each compared with what `segments` and `sparse_array` answer.
-use crate::count;
+use crate::score::Score;
+use crate::score::count;
 use answers::Line;
 use segments::Index;
 use sparse_array::Changed;
@@ -9,11 +10,8 @@ use sparse_array::Found;
 struct Tally {
     bitmap: u64,
     place: usize,
-    calls: u64,
     indexes: u64,
-    wrong: u64,
-    // what the last line says of the calls; the largest number before it is read
-    total: u64,
+    score: Score,
 }
 
 // An answer that may be missing, as the stored answers write it: 1 and the answer, or two zeros. A refusal, which the
@@ -50,33 +48,39 @@ impl Tally {
         Tally {
             bitmap: 0,
             place: 0,
-            calls: 0,
             indexes: 0,
-            wrong: 0,
-            total: u64::MAX,
+            score: Score::new(),
         }
     }
 
-    fn call(mut self) -> Self {
-        self.calls = count(self.calls);
+    fn scored(mut self, score: Score) -> Self {
+        self.score = score;
         self
     }
 
-    fn index(mut self) -> Self {
-        self.indexes = count(self.indexes);
-        self
+    fn see(self, right: bool) -> Self {
+        let score = self.score;
+        self.scored(score.see(right))
     }
 
-    fn see(mut self, right: bool) -> Self {
-        if !right {
-            self.wrong = count(self.wrong);
-        }
-        self
+    fn call(self) -> Self {
+        let score = self.score;
+        self.scored(score.call())
+    }
+
+    fn end(self, total: u64) -> Self {
+        let score = self.score;
+        self.scored(score.end(total))
     }
 
     // What a call that reads answered, and what it should have.
     fn see_maybe(self, got: Maybe, there: u64, value: u64) -> Self {
         self.see(got.there == there && got.value == value)
+    }
+
+    fn index(mut self, got: Maybe, there: u64, value: u64) -> Self {
+        self.indexes = count(self.indexes);
+        self.see_maybe(got, there, value)
     }
 
     // The array that a call left, and the bitmap and size that it should have. Its words stand on the next lines.
@@ -145,29 +149,20 @@ impl Tally {
         let letter = line.letter;
         match letter {
             b'#' => self,
-            b'x' => {
-                let got = of_index(segments::index_from_hash(numbers[0], numbers[1], numbers[2]));
-                self.call().index().see_maybe(got, numbers[3], numbers[4])
-            }
             b'+' => self.see_word(words, numbers[0]),
             b't' => self.end(numbers[0]),
+            b'x' => {
+                let got = of_index(segments::index_from_hash(numbers[0], numbers[1], numbers[2]));
+                self.call().index(got, numbers[3], numbers[4])
+            }
             _ => self.call().on_array(words, letter, numbers),
         }
     }
 
-    fn end(mut self, total: u64) -> Self {
-        self.total = total;
-        self
-    }
-
     fn show(self) {
-        print::decimal(b": calls ", self.calls);
-        print::decimal(b", of index_from_hash ", self.indexes);
-        print::decimal(b", wrong ", self.wrong);
-        if self.calls != self.total {
-            print::say(b", not whole");
-        }
-        print::say(b"\n");
+        print::decimal(b": index_from_hash ", self.indexes);
+        let score = self.score;
+        score.show();
     }
 }
 

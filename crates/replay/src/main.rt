@@ -4,13 +4,9 @@
 //! crate lists stands in the order of our segments.
 mod editions;
 mod leaves;
+mod score;
 
 ghost use Rattle.io.specs.Counts.{Counts};
-
-// One more, as far as numbers go.
-pub fn count(n: u64) -> u64 {
-    if n < u64::MAX { n + 1 } else { n }
-}
 
 // Reads a file of the data folder, and answers how many bytes it has; none, and a message, where it cannot be read.
 fn read(name: &[u8], text: &mut [u8]) -> usize
