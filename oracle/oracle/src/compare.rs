@@ -34,7 +34,8 @@ impl Tally {
         self.inserts + self.changes + self.removes
     }
 
-    fn count(&mut self, call: &Call, answer: &Answer) {
+    /// Counts a call.
+    pub fn count(&mut self, call: &Call, answer: &Answer) {
         if answer.number != number::DONE {
             self.refusals += 1;
             return;

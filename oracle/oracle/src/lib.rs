@@ -9,6 +9,7 @@ pub mod calls;
 pub mod compare;
 pub mod differences;
 pub mod drive;
+pub mod exhaust;
 #[cfg(test)]
 mod faults;
 pub mod leaves;

@@ -1,5 +1,6 @@
 //! The command: the comparison, the stored answers, the differences, and the driver.
 use oracle::compare::{Difference, Tally, compare};
+use oracle::exhaust::exhaust;
 use oracle::{DEGREES, answers, differences, drive};
 use std::io::{self, BufWriter};
 use std::path::Path;
@@ -13,7 +14,8 @@ const USAGE: &str = "\
 usage: oracle COMMAND
 
   all [SEED]                 compare, then answers
-  compare [UPDATES] [SEED]   random calls on the crate and on document 01's trie, so many updates at each degree
+  compare [UPDATES] [SEED]   calls on the crate and on document 01's trie: every short sequence of updates, and random ones,
+                             so many updates at each degree
   answers [SEED] [FOLDER]    writes the stored answers, by default where the program `replay` reads them
   differences                runs the crate where it differs on purpose, on the smallest inputs
   drive                      answers the calls on standard input
@@ -23,34 +25,40 @@ UPDATES is 200000, SEED 1. oracle/README.md says how calls are written.";
 /// Where the stored answers lie.
 const FOLDER: &str = concat!(env!("CARGO_MANIFEST_DIR"), "/../../crates/replay/data");
 
+/// How long the sequences are of which none is left out.
+const SHORT: u32 = 6;
 const UPDATES: u64 = 200_000;
 const SEED: u64 = 1;
 
-/// Compares at every degree, as many at a time as there are cores.
-fn compare_all(updates: u64, seed: u64) -> Result<(), String> {
-    let began = Instant::now();
+/// Runs something at every degree, as many at a time as there are cores.
+fn at_every_degree(run: impl Fn(u64) -> Result<Tally, Difference> + Sync) -> Result<Vec<Tally>, String> {
     let threads = thread::available_parallelism().map_or(1, usize::from);
     let next = AtomicUsize::new(0);
-    let tallies: [OnceLock<Result<Tally, Difference>>; DEGREES.len()] = Default::default();
+    let outcomes: [OnceLock<Result<Tally, Difference>>; DEGREES.len()] = Default::default();
     thread::scope(|scope| {
         for _ in 0..threads {
             scope.spawn(|| {
                 while let Some(at) = Some(next.fetch_add(1, Relaxed)).filter(|at| *at < DEGREES.len()) {
-                    let _ = tallies[at].set(compare(DEGREES[at], updates, seed));
+                    let _ = outcomes[at].set(run(DEGREES[at]));
                 }
             });
         }
     });
-    let mut compared = 0;
-    for (degree, outcome) in DEGREES.iter().zip(tallies) {
-        match outcome.into_inner().expect("every degree was compared") {
-            Ok(tally) => {
-                println!("degree {degree}: {tally}");
-                compared += tally.updates();
-            }
-            Err(difference) => return Err(format!("{difference}\ncompare: degree {degree}: 1 difference")),
-        }
+    let outcomes = outcomes.into_iter().map(|outcome| outcome.into_inner().expect("every degree was run"));
+    let said = |difference| format!("{difference}\ncompare: 1 difference");
+    outcomes.collect::<Result<_, _>>().map_err(said)
+}
+
+/// Compares at every degree: all short sequences, and random long ones.
+fn compare_all(updates: u64, seed: u64) -> Result<(), String> {
+    let began = Instant::now();
+    let short = at_every_degree(|degree| exhaust(degree, SHORT))?.iter().map(Tally::updates).sum::<u64>();
+    println!("every sequence of up to {SHORT} updates over 4 keys, at each degree: {short} updates");
+    let tallies = at_every_degree(|degree| compare(degree, updates, seed))?;
+    for (degree, tally) in DEGREES.iter().zip(&tallies) {
+        println!("degree {degree}: {tally}");
     }
+    let compared = tallies.iter().map(Tally::updates).sum::<u64>() + short;
     println!("compare: {compared} updates, 0 differences ({} s)", began.elapsed().as_secs());
     Ok(())
 }
