@@ -2,7 +2,6 @@
 //! too large for a program to hold, and that the crate lists in the order of our segments.
 use crate::score::Score;
 use crate::score::count;
-use answers::Line;
 use segments::Index;
 ghost use Prim.Native.Nat.{_*_, _≤_};
 
@@ -18,7 +17,12 @@ struct Tally {
     is_first: bool,
     last: u64,
     largest: u64,
-    score: Score,
+}
+
+// The tally after a line, and whether the line is right.
+struct Seen {
+    tally: Tally,
+    right: bool,
 }
 
 // How many arguments a call has; none has nine.
@@ -92,97 +96,96 @@ impl Tally {
             is_first: true,
             last: 0,
             largest: 0,
-            score: Score::new(),
         }
     }
 
-    fn scored(mut self, score: Score) -> Self {
-        self.score = score;
-        self
-    }
-
-    fn see(self, right: bool) -> Self {
-        let score = self.score;
-        self.scored(score.see(right))
-    }
-
-    fn end(self, total: u64) -> Self {
-        let score = self.score;
-        self.scored(score.end(total))
+    fn seen(self, right: bool) -> Seen {
+        Seen {
+            tally: self,
+            right: right,
+        }
     }
 
     // A call has all its numbers, and the listing before it has shown all its entries.
-    fn call(self, arguments: usize, numbers: usize) -> Self {
-        let called = self.score;
-        let score = called.call();
+    fn call(self, arguments: usize, numbers: usize) -> Seen {
         if 0 < self.listing {
-            return self.scored(score.see(false));
+            return self.seen(false);
         }
         if 4 < arguments {
-            return self.scored(score.see(false));
+            return self.seen(false);
         }
-        self.scored(score.see(arguments + 4 == numbers))
+        self.seen(arguments + 4 == numbers)
     }
 
-    fn format(mut self, numbers: [u64; 8]) -> Self {
+    fn format(mut self, numbers: [u64; 8], count: usize) -> Seen {
         let size = words(numbers[0], numbers[1], numbers[2], numbers[3]);
         if self.largest < size {
             self.largest = size;
         }
-        let degree = self.degree;
-        self.see(numbers[0] == degree && size <= MOST_WORDS)
+        if numbers[0] != self.degree {
+            return self.seen(false);
+        }
+        if MOST_WORDS < size {
+            return self.seen(false);
+        }
+        self.call(4, count)
     }
 
     // A listing that is not refused shows as many entries as it says.
-    fn list(mut self, number: u64, entries: u64) -> Self {
+    fn listed(mut self, number: u64, entries: u64) -> Self {
         self.listing = if number == 0 { entries } else { 0 };
         self.is_first = true;
         self
     }
 
-    fn entry(mut self, hash: u64, numbers: usize) -> Self {
+    fn list(self, numbers: [u64; 8], count: usize) -> Seen {
+        let called = self.call(3, count);
+        let tally = called.tally;
+        tally.listed(numbers[3], numbers[4]).seen(called.right)
+    }
+
+    fn entry(mut self, hash: u64, numbers: usize) -> Seen {
         let left = self.listing;
         let right = self.is_first || in_order(self.last, hash, self.degree);
         self.entries = count(self.entries);
         self.is_first = false;
         self.last = hash;
         if left == 0 {
-            return self.see(false);
+            return self.seen(false);
         }
         self.listing = left - 1;
-        self.see(right && numbers == 3)
+        self.seen(right && numbers == 3)
     }
 
-    fn line(self, line: Line) -> Self {
-        let numbers = line.numbers;
-        let count = line.count;
-        let letter = line.letter;
+    fn line(self, letter: u8, numbers: [u64; 8], count: usize) -> Seen {
         match letter {
-            b'#' => self,
+            b'#' | b't' => self.seen(true),
             b'+' => self.entry(numbers[0], count),
-            b't' => self.end(numbers[0]),
-            b'f' => self.call(4, count).format(numbers),
-            b'l' => self.call(3, count).list(numbers[3], numbers[4]),
+            b'f' => self.format(numbers, count),
+            b'l' => self.list(numbers, count),
             _ => self.call(arguments(letter), count),
         }
-    }
-
-    fn show(self) {
-        print::decimal(b": entries listed ", self.entries);
-        print::decimal(b", words of the largest arena ", self.largest);
-        let score = self.score;
-        score.show();
     }
 }
 
 // Reads a file.
 pub fn replay(text: &[u8], degree: u64) {
     let mut tally = Tally::new(degree);
+    let mut score = Score::new();
     let mut at = 0;
     while at < text.len() {
         let line = answers::read_line(text, at);
         at = line.next;
-        tally = tally.line(line);
+        let numbers = line.numbers;
+        let seen = tally.line(line.letter, numbers, line.count);
+        tally = seen.tally;
+        score = score.line(line.letter, numbers[0], seen.right);
     }
-    tally.show();
+    show(tally, score);
+}
+
+fn show(tally: Tally, score: Score) {
+    print::decimal(b": entries listed ", tally.entries);
+    print::decimal(b", words of the largest arena ", tally.largest);
+    score.show();
 }

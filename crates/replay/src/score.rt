@@ -2,10 +2,10 @@
 //! says the same number of calls.
 
 pub struct Score {
-    pub calls: u64,
-    pub wrong: u64,
+    calls: u64,
+    wrong: u64,
     // what the last line says of the calls; the largest number before that is read
-    pub total: u64,
+    total: u64,
 }
 
 // One more, as far as numbers go.
@@ -22,21 +22,31 @@ impl Score {
         }
     }
 
-    pub fn call(mut self) -> Self {
+    fn call(mut self) -> Self {
         self.calls = count(self.calls);
         self
     }
 
-    pub fn see(mut self, right: bool) -> Self {
+    fn see(mut self, right: bool) -> Self {
         if !right {
             self.wrong = count(self.wrong);
         }
         self
     }
 
-    pub fn end(mut self, total: u64) -> Self {
+    fn end(mut self, total: u64) -> Self {
         self.total = total;
         self
+    }
+
+    // A line, by its letter and its first number: a comment, a part of the answer above it, the last line, or a call.
+    pub fn line(self, letter: u8, number: u64, right: bool) -> Self {
+        match letter {
+            b'#' => self,
+            b'+' => self.see(right),
+            b't' => self.end(number),
+            _ => self.call().see(right),
+        }
     }
 
     pub fn show(self) {

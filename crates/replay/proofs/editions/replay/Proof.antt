@@ -7,13 +7,16 @@ use Rattle.replay.proofs.editions.replay.Statement.{statement}
 use Rattle.replay.proofs.editions.replay.Tie as tie
 
 abbrev Inv-loop : tie.InvT-loop
-Inv-loop text degree tally₀ at₀ tally at = at ≤ length text
+Inv-loop text degree tally₀ score₀ at₀ tally score at = at ≤ length text
 
 abbrev μ-loop : tie.MeasureT-loop
-μ-loop text degree tally₀ at₀ tally at = length text - at
+μ-loop text degree tally₀ score₀ at₀ tally score at = length text - at
 
 new-requires : tie.Need-new-requires Inv-loop μ-loop
 new-requires c κs = search needs
+
+new-requires-2 : tie.Need-new-requires-2 Inv-loop μ-loop
+new-requires-2 c κs = search needs
 
 loop-holds : tie.Need-loop-holds Inv-loop μ-loop
 loop-holds c = search needs
@@ -23,6 +26,12 @@ read-line-requires c κs = search needs
 
 line-requires : tie.Need-line-requires Inv-loop μ-loop
 line-requires c κs = search needs
+
+array-read-line : tie.Need-array-read-line Inv-loop μ-loop
+array-read-line c = search needs
+
+line-requires-2 : tie.Need-line-requires-2 Inv-loop μ-loop
+line-requires-2 c κs = search needs
 
 loop-less : tie.Need-loop-less Inv-loop μ-loop
 loop-less c = search needs
@@ -43,9 +52,12 @@ replay-spec =
     Inv-loop
     μ-loop
     new-requires
+    new-requires-2
     loop-holds
     read-line-requires
     line-requires
+    array-read-line
+    line-requires-2
     loop-less
     loop-again
     show-requires

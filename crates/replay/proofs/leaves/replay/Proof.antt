@@ -9,13 +9,16 @@ use Rattle.replay.proofs.leaves.replay.Statement.{statement}
 use Rattle.replay.proofs.leaves.replay.Tie as tie
 
 abbrev Inv-loop : tie.InvT-loop
-Inv-loop text words₀ tally₀ at₀ words tally at = (at ≤ length text) × (length words ≡ length words₀)
+Inv-loop text words₀ tally₀ score₀ at₀ words tally score at = (at ≤ length text) × (length words ≡ length words₀)
 
 abbrev μ-loop : tie.MeasureT-loop
-μ-loop text words₀ tally₀ at₀ words tally at = length text - at
+μ-loop text words₀ tally₀ score₀ at₀ words tally score at = length text - at
 
 new-requires : tie.Need-new-requires Inv-loop μ-loop
 new-requires c κs = search needs
+
+new-requires-2 : tie.Need-new-requires-2 Inv-loop μ-loop
+new-requires-2 c κs = search needs
 
 loop-holds : tie.Need-loop-holds Inv-loop μ-loop
 loop-holds c = search needs
@@ -25,6 +28,12 @@ read-line-requires c κs = search needs
 
 line-requires : tie.Need-line-requires Inv-loop μ-loop
 line-requires c κs = search needs
+
+array-read-line : tie.Need-array-read-line Inv-loop μ-loop
+array-read-line c = search needs
+
+line-requires-2 : tie.Need-line-requires-2 Inv-loop μ-loop
+line-requires-2 c κs = search needs
 
 loop-less : tie.Need-loop-less Inv-loop μ-loop
 loop-less c = search needs
@@ -48,9 +57,12 @@ replay-spec =
     Inv-loop
     μ-loop
     new-requires
+    new-requires-2
     loop-holds
     read-line-requires
     line-requires
+    array-read-line
+    line-requires-2
     loop-less
     loop-again
     show-requires
