@@ -1,28 +1,22 @@
-//! The answers on editions at one degree: that the file is whole and each line what its letter asks for, that no arena is
-//! too large for a program to hold, and that the crate lists in the order of our segments.
-use crate::score::Score;
+//! The answers on editions at one degree: that each line is what its letter asks for, and that the crate lists in the
+//! order of our segments.
 use crate::score::count;
 use segments::Index;
-ghost use Prim.Native.Nat.{_*_, _≤_};
-
-// A program holds an arena of this many words at most.
-const MOST_WORDS: u64 = 8192;
 
 // What was read so far. `listing` is how many entries of a listing the next lines have still to show, and `last` the
 // hash of the one before them, where there is one.
-struct Tally {
+pub struct Tally {
     degree: u64,
-    entries: u64,
+    pub entries: u64,
     listing: u64,
     is_first: bool,
     last: u64,
-    largest: u64,
 }
 
 // The tally after a line, and whether the line is right.
-struct Seen {
-    tally: Tally,
-    right: bool,
+pub struct Seen {
+    pub tally: Tally,
+    pub right: bool,
 }
 
 // How many arguments a call has; none has nine.
@@ -35,30 +29,6 @@ fn arguments(letter: u8) -> usize {
         b'f' | b'i' | b'c' => 4,
         _ => 9,
     }
-}
-
-fn branch_words(branches: u64, degree: u64) -> u64
-    requires { ⌜ (branches ≤ 8192) × (degree ≤ 64) ⌝ }
-    ensures { λ r. ⌜ r ≤ 8192 * 67 ⌝ }
-{
-    branches * (3 + degree)
-}
-
-// The words of an arena, or one more than a program holds.
-fn words(degree: u64, branches: u64, entries: u64, editions: u64) -> u64 {
-    if 64 < degree {
-        return MOST_WORDS + 1;
-    }
-    if MOST_WORDS < branches {
-        return MOST_WORDS + 1;
-    }
-    if MOST_WORDS < entries {
-        return MOST_WORDS + 1;
-    }
-    if MOST_WORDS < editions {
-        return MOST_WORDS + 1;
-    }
-    12 + 3 * editions + branch_words(branches, degree) + 6 * entries
 }
 
 fn segment(hash: u64, depth: u64, degree: u64) -> u64 {
@@ -88,14 +58,13 @@ fn in_order(before: u64, behind: u64, degree: u64) -> bool {
 }
 
 impl Tally {
-    fn new(degree: u64) -> Self {
+    pub fn new(degree: u64) -> Self {
         Tally {
             degree: degree,
             entries: 0,
             listing: 0,
             is_first: true,
             last: 0,
-            largest: 0,
         }
     }
 
@@ -117,15 +86,9 @@ impl Tally {
         self.seen(arguments + 4 == numbers)
     }
 
-    fn format(mut self, numbers: [u64; 8], count: usize) -> Seen {
-        let size = words(numbers[0], numbers[1], numbers[2], numbers[3]);
-        if self.largest < size {
-            self.largest = size;
-        }
-        if numbers[0] != self.degree {
-            return self.seen(false);
-        }
-        if MOST_WORDS < size {
+    // Every arena of a file has the file's degree.
+    fn format(self, degree: u64, count: usize) -> Seen {
+        if self.degree != degree {
             return self.seen(false);
         }
         self.call(4, count)
@@ -157,35 +120,13 @@ impl Tally {
         self.seen(right && numbers == 3)
     }
 
-    fn line(self, letter: u8, numbers: [u64; 8], count: usize) -> Seen {
+    pub fn line(self, letter: u8, numbers: [u64; 8], count: usize) -> Seen {
         match letter {
             b'#' | b't' => self.seen(true),
             b'+' => self.entry(numbers[0], count),
-            b'f' => self.format(numbers, count),
+            b'f' => self.format(numbers[0], count),
             b'l' => self.list(numbers, count),
             _ => self.call(arguments(letter), count),
         }
     }
-}
-
-// Reads a file.
-pub fn replay(text: &[u8], degree: u64) {
-    let mut tally = Tally::new(degree);
-    let mut score = Score::new();
-    let mut at = 0;
-    while at < text.len() {
-        let line = answers::read_line(text, at);
-        at = line.next;
-        let numbers = line.numbers;
-        let seen = tally.line(line.letter, numbers, line.count);
-        tally = seen.tally;
-        score = score.line(line.letter, numbers[0], seen.right);
-    }
-    show(tally, score);
-}
-
-fn show(tally: Tally, score: Score) {
-    print::decimal(b": entries listed ", tally.entries);
-    print::decimal(b", words of the largest arena ", tally.largest);
-    score.show();
 }

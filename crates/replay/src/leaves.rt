@@ -1,21 +1,20 @@
 //! The answers on `index_from_hash` and on the sparse array, each compared with what `segments` and `sparse_array` answer.
-use crate::score::Score;
 use crate::score::count;
 use segments::Index;
 use sparse_array::Changed;
 use sparse_array::Found;
 
 // What was replayed so far: the bitmap of the array, and which of its words the next line shows.
-struct Tally {
+pub struct Tally {
     bitmap: u64,
     place: usize,
-    indexes: u64,
+    pub indexes: u64,
 }
 
 // The tally after a line, and whether the line came out right.
-struct Seen {
-    tally: Tally,
-    right: bool,
+pub struct Seen {
+    pub tally: Tally,
+    pub right: bool,
 }
 
 // An answer that may be missing, as the stored answers write it: 1 and the answer, or two zeros. A refusal, which the
@@ -48,7 +47,7 @@ fn of_index(i: Index) -> Maybe {
 }
 
 impl Tally {
-    fn new() -> Self {
+    pub fn new() -> Self {
         Tally {
             bitmap: 0,
             place: 0,
@@ -102,9 +101,12 @@ impl Tally {
         self.seen(true)
     }
 
-    // A line that reads or writes the array.
+    // A line that reads or writes the array, once every word that the last call left has been shown.
     fn on_array(self, words: &mut [u64], letter: u8, numbers: [u64; 8]) -> Seen {
         let bitmap = self.bitmap;
+        if self.place != sparse_array::size(bitmap) {
+            return self.seen(false);
+        }
         match letter {
             b'p' => {
                 let changed = sparse_array::set(bitmap, words, numbers[0], numbers[1]);
@@ -134,7 +136,7 @@ impl Tally {
         }
     }
 
-    fn line(self, words: &mut [u64], letter: u8, numbers: [u64; 8]) -> Seen {
+    pub fn line(self, words: &mut [u64], letter: u8, numbers: [u64; 8]) -> Seen {
         match letter {
             b'#' | b't' => self.seen(true),
             b'+' => self.word(words, numbers[0]),
@@ -145,25 +147,4 @@ impl Tally {
             _ => self.on_array(words, letter, numbers),
         }
     }
-}
-
-// Replays a file, with words for the array: one for each virtual index is enough.
-pub fn replay(text: &[u8], words: &mut [u64]) {
-    let mut tally = Tally::new();
-    let mut score = Score::new();
-    let mut at = 0;
-    while at < text.len() {
-        let line = answers::read_line(text, at);
-        at = line.next;
-        let numbers = line.numbers;
-        let seen = tally.line(words, line.letter, numbers);
-        tally = seen.tally;
-        score = score.line(line.letter, numbers[0], seen.right);
-    }
-    show(tally, score);
-}
-
-fn show(tally: Tally, score: Score) {
-    print::decimal(b": index_from_hash ", tally.indexes);
-    score.show();
 }

@@ -157,7 +157,7 @@ fn without(calls: &[Call], from: usize, block: usize) -> Vec<Call> {
 }
 
 /// A difference from which no call can be left out.
-fn shrink<T: Trie>(mut found: Difference) -> Difference {
+pub(crate) fn shrink<T: Trie>(mut found: Difference) -> Difference {
     let mut block = found.calls.len();
     while block > 0 {
         let before = found.calls.len();

@@ -1,8 +1,8 @@
 //! The comparison on short inputs: every sequence of a few updates over a few keys.
 use crate::both::Both;
 use crate::calls::{Call, number};
-use crate::compare::{Difference, Tally};
-use crate::paper;
+use crate::compare::{Difference, Tally, shrink};
+use crate::paper::{self, Paper};
 use crate::recorder::{change, insert, remove};
 use crate::runs::Pair;
 
@@ -28,6 +28,12 @@ struct Walk {
 }
 
 impl Walk {
+    /// An arena with an empty edition.
+    fn begin(&mut self) -> Result<u64, Difference> {
+        self.call(Call::Format { degree: self.degree, branches: 1 << 20, entries: 1 << 20, editions: 16 })?;
+        Ok(self.call(Call::NewEdition)?.expect("there is a slot free"))
+    }
+
     /// Makes a call; the answer, if it is not refused.
     fn call(&mut self, call: Call) -> Result<Option<u64>, Difference> {
         self.calls.push(call);
@@ -57,10 +63,8 @@ impl Walk {
 }
 
 /// Every sequence of up to so many updates from the empty map, over four keys, at a degree.
-pub fn exhaust(degree: u64, updates_left: u32) -> Result<Tally, Difference> {
+pub fn exhaust(degree: u64, updates: u32) -> Result<Tally, Difference> {
     let mut walk = Walk { degree, calls: Vec::new(), both: Both::default(), tally: Tally::default() };
-    walk.call(Call::Format { degree, branches: 1 << 20, entries: 1 << 20, editions: 16 })?;
-    let Some(empty) = walk.call(Call::NewEdition)? else { unreachable!("there is a slot free") };
-    walk.go_on(empty, updates_left)?;
+    walk.begin().and_then(|empty| walk.go_on(empty, updates)).map_err(shrink::<Paper>)?;
     Ok(walk.tally)
 }

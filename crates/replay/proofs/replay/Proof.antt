@@ -1,24 +1,21 @@
--- `replay::leaves::replay` is safe and ends: each line begins behind the one before it, and none behind the text. The words
--- stay as many as they were.
+-- `replay::replay` is safe and ends: each line begins behind the one before it, and none behind the text. The words stay as
+-- many as they were.
 -- Assumes nothing.
 use mathlib.Core.Path.{_≡_}
 use Prim.Native.Nat.{_-_, _≤_}
 use lib.ListN.{length}
 use borrow.Author.Needs.{needs}
-use Rattle.replay.proofs.leaves.replay.Statement.{statement}
-use Rattle.replay.proofs.leaves.replay.Tie as tie
+use Rattle.replay.proofs.replay.Statement.{statement}
+use Rattle.replay.proofs.replay.Tie as tie
 
 abbrev Inv-loop : tie.InvT-loop
-Inv-loop text words₀ tally₀ score₀ at₀ words tally score at = (at ≤ length text) × (length words ≡ length words₀)
+Inv-loop text words₀ file₀ score₀ at₀ words file score at = (at ≤ length text) × (length words ≡ length words₀)
 
 abbrev μ-loop : tie.MeasureT-loop
-μ-loop text words₀ tally₀ score₀ at₀ words tally score at = length text - at
+μ-loop text words₀ file₀ score₀ at₀ words file score at = length text - at
 
 new-requires : tie.Need-new-requires Inv-loop μ-loop
 new-requires c κs = search needs
-
-new-requires-2 : tie.Need-new-requires-2 Inv-loop μ-loop
-new-requires-2 c κs = search needs
 
 loop-holds : tie.Need-loop-holds Inv-loop μ-loop
 loop-holds c = search needs
@@ -26,14 +23,14 @@ loop-holds c = search needs
 read-line-requires : tie.Need-read-line-requires Inv-loop μ-loop
 read-line-requires c κs = search needs
 
-line-requires : tie.Need-line-requires Inv-loop μ-loop
-line-requires c κs = search needs
+take-line-requires : tie.Need-take-line-requires Inv-loop μ-loop
+take-line-requires c κs = search needs
 
 array-read-line : tie.Need-array-read-line Inv-loop μ-loop
 array-read-line c = search needs
 
-line-requires-2 : tie.Need-line-requires-2 Inv-loop μ-loop
-line-requires-2 c κs = search needs
+line-requires : tie.Need-line-requires Inv-loop μ-loop
+line-requires c κs = search needs
 
 loop-less : tie.Need-loop-less Inv-loop μ-loop
 loop-less c = search needs
@@ -57,12 +54,11 @@ replay-spec =
     Inv-loop
     μ-loop
     new-requires
-    new-requires-2
     loop-holds
     read-line-requires
-    line-requires
+    take-line-requires
     array-read-line
-    line-requires-2
+    line-requires
     loop-less
     loop-again
     show-requires
