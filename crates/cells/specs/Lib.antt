@@ -1,0 +1,3 @@
+pub mod Mirrors
+pub mod Frame
+pub mod Slots

@@ -1,0 +1,40 @@
+//! How many words name a cell.
+use layout::Shape;
+use layout::words;
+ghost use mathlib.Core.Path.{_≡_};
+ghost use mathlib.Core.Bool.{true};
+ghost use Prim.Native.Nat.{_-_};
+ghost use Rattle.layout.specs.Layout.{names, Lent};
+ghost use Rattle.cells.specs.Mirrors.{shareWords, unshareWords};
+
+const MOST: u64 = 18446744073709551615;
+
+// One fewer, and none of none.
+pub fn fewer(n: u64) -> u64
+    ensures { λ r. ⌜ r ≡ n - 1 ⌝ }
+{
+    if n == 0 { 0 } else { n - 1 }
+}
+
+// One more word will name the cell. A count that cannot rise stays: no sound arena has one.
+pub fn share(a: &mut [u64], z: Shape, r: u64)
+    requires { ⌜ Lent z (now a) ⌝ }
+    ensures { λ _. ⌜ now (a .exit) ≡ shareWords z (now (a .entry)) r ⌝ }
+{
+    if words::is_cell(z, r) {
+        let n = words::word(&*a, z, r, words::COUNT);
+        if n < MOST {
+            words::set_word(&mut *a, z, r, words::COUNT, n + 1);
+        }
+    }
+}
+
+// One word fewer names the cell.
+pub fn unshare(a: &mut [u64], z: Shape, r: u64)
+    requires { ⌜ Lent z (now a) ⌝ }
+    requires { ⌜ names z r ≡ true ⌝ }
+    ensures { λ _. ⌜ now (a .exit) ≡ unshareWords z (now (a .entry)) r ⌝ }
+{
+    let n = words::word(&*a, z, r, words::COUNT);
+    words::set_word(&mut *a, z, r, words::COUNT, fewer(n));
+}

@@ -1,0 +1,4 @@
+pub mod Layout
+pub mod Header
+pub mod Columns
+pub mod Blank

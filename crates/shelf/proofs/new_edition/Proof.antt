@@ -1,0 +1,43 @@
+use Rattle.shelf.proofs.EditionLaws.{header-right, header-wrong, makes-new}
+use Rattle.layout.proofs.HeaderLaws.{header-says, header-lent}
+use mathlib.Core.Path.{sym, _∙_}
+use borrow.Author.Needs.{needs}
+use Rattle.shelf.proofs.new_edition.Statement.{statement}
+use Rattle.shelf.proofs.new_edition.Tie as tie
+
+read-requires : tie.Need-read-requires
+read-requires c κs = search needs
+
+enum-known-z : tie.Need-enum-known-z
+enum-known-z c = search needs
+
+new-edition-in-requires : tie.Need-new-edition-in-requires
+new-edition-in-requires c κs = header-lent _ _ (header-says _ _ .0 (sym (c .before .before .before .before .read .ensures) ∙ c .before .before .z .given .1))
+
+enum-told : tie.Need-enum-told
+enum-told c = search needs
+
+same-length : tie.Need-same-length
+same-length c = search needs
+
+returns : tie.Need-returns
+returns c = makes-new _ _ _ (c .before .before .new-edition-in .ensures ∙ sym (header-right _ _ _ _ (sym (c .before .before .before .before .before .before .before .read .ensures) ∙ c .before .before .before .before .before .z .given .1)))
+
+same-length-2 : tie.Need-same-length-2
+same-length-2 c = search needs
+
+returns-2 : tie.Need-returns-2
+returns-2 c = makes-new _ _ _ (sym (header-wrong _ _ _ (sym (c .before .before .read .ensures) ∙ c .enum-told .given .1)))
+
+pub new-edition-spec : {M : Type 1} → statement M
+new-edition-spec =
+    tie.close
+    (tie.spec
+    read-requires
+    enum-known-z
+    new-edition-in-requires
+    enum-told
+    same-length
+    returns
+    same-length-2
+    returns-2)

@@ -1,0 +1,23 @@
+use native.Mathlib.Omega.{arith}
+use Rattle.shelf.specs.declared.Counted.the-variants as C
+use Rattle.cells.proofs.SlotLaws.{held-says}
+use Rattle.shelf.proofs.ReadLaws.{size-held, size-not-held}
+use mathlib.Core.Path.{sym, _∙_, ap}
+use borrow.Author.Needs.{needs}
+use Rattle.shelf.proofs.size_in.Statement.{statement}
+use Rattle.shelf.proofs.size_in.Tie as tie
+
+is-held-requires : tie.Need-is-held-requires
+is-held-requires c κs = search needs
+
+slot-word-requires : tie.Need-slot-word-requires
+slot-word-requires c κs = (c .before .before .before .pre, (held-says _ _ _ (sym (c .before .is-held .ensures) ∙ c .if1 .taken) .0, omega (arith, c .before .before .before .pre .allowed .wide)))
+
+returns : tie.Need-returns
+returns c = ap C.Entries (c .slot-word .ensures) ∙ sym (size-held _ _ _ (sym (c .before .before .is-held .ensures) ∙ c .before .if1 .taken))
+
+returns-2 : tie.Need-returns-2
+returns-2 c = sym (size-not-held _ _ _ (sym (c .before .is-held .ensures) ∙ c .if1 .left))
+
+pub size-in-spec : {M : Type 1} → statement M
+size-in-spec = tie.close (tie.spec is-held-requires slot-word-requires returns returns-2)

@@ -1,0 +1,55 @@
+-- Document 01, "Answer numbers": the number and the values of each answer. "A refusal returns zeros beside its number."
+use Prim.Native.Nat.{ℕ}
+use Rattle.shelf.specs.declared.Refusal.{Refusal}
+use Rattle.shelf.specs.declared.Refusal.the-variants.{BadDegree, BadSizes, SliceTooShort, Damaged, NoSuchEdition, Absent, NoSlot, NoBranchCells, NoEntryCells, OutputTooShort, BeyondTheEnd, WorkTooShort}
+use Rattle.shelf.specs.declared.Formatted.{Formatted}
+use Rattle.shelf.specs.declared.Formatted.the-variants as F
+use Rattle.shelf.specs.declared.Made.{Made}
+use Rattle.shelf.specs.declared.Made.the-variants as M
+use Rattle.shelf.specs.declared.Counted.{Counted}
+use Rattle.shelf.specs.declared.Counted.the-variants as C
+use Rattle.shelf.specs.declared.InUse.{InUse}
+use Rattle.shelf.specs.declared.InUse.the-variants as U
+
+pub record Answer : Type 0 where
+  pub number : ℕ
+  pub a : ℕ
+  pub b : ℕ
+  pub c : ℕ
+
+abbrev pub answer : ℕ → ℕ → ℕ → ℕ → Answer
+answer n x y w = record { number = n; a = x; b = y; c = w }
+
+-- the table's numbers 1 to 12
+unfoldable pub numberOf : Refusal → ℕ
+numberOf BadDegree = 1
+numberOf BadSizes = 2
+numberOf SliceTooShort = 3
+numberOf Damaged = 4
+numberOf NoSuchEdition = 5
+numberOf Absent = 6
+numberOf NoSlot = 7
+numberOf NoBranchCells = 8
+numberOf NoEntryCells = 9
+numberOf OutputTooShort = 10
+numberOf BeyondTheEnd = 11
+numberOf WorkTooShort = 12
+
+abbrev pub refused : Refusal → Answer
+refused r = answer (numberOf r) 0 0 0
+
+unfoldable pub formatted : Formatted → Answer
+formatted F.Done = answer 0 0 0 0
+formatted (F.Refused r) = refused r
+
+unfoldable pub made : Made → Answer
+made (M.Edition e) = answer 0 e 0 0
+made (M.Refused r) = refused r
+
+unfoldable pub counted : Counted → Answer
+counted (C.Entries n) = answer 0 n 0 0
+counted (C.Refused r) = refused r
+
+unfoldable pub inUse : InUse → Answer
+inUse (U.Cells b n) = answer 0 b n 0
+inUse (U.Refused r) = refused r
