@@ -18,7 +18,7 @@ fn may_take(a: &[u64], z: Shape, kind: u64, r: u64) -> bool
     if words::is_cell(z, r) {
         if r % 2 == kind {
             if words::word(a, z, r, words::COUNT) == 0 {
-                words::in_use(a, z, kind) < words::cells_of(z, kind)
+                words::kind_word(a, z, words::IN_USE, kind) < words::cells_of(z, kind)
             } else {
                 false
             }
@@ -38,14 +38,14 @@ pub fn take(a: &mut [u64], z: Shape, kind: u64) -> u64
     ensures { λ r. ⌜ r ≡ takenOf z (now (a .entry)) kind ⌝ }
     ensures { λ _. ⌜ now (a .exit) ≡ takeWords z (now (a .entry)) kind ⌝ }
 {
-    let r = words::first_free(&*a, z, kind);
+    let r = words::kind_word(&*a, z, words::FIRST_FREE, kind);
     if may_take(&*a, z, kind, r) {
         let next = words::word(&*a, z, r, words::MARK);
-        let used = words::in_use(&*a, z, kind);
+        let used = words::kind_word(&*a, z, words::IN_USE, kind);
         words::set_word(&mut *a, z, r, words::COUNT, 1);
         words::set_word(&mut *a, z, r, words::MARK, 0);
-        words::set_first_free(&mut *a, z, kind, next);
-        words::set_in_use(&mut *a, z, kind, used + 1);
+        words::set_kind_word(&mut *a, z, words::FIRST_FREE, kind, next);
+        words::set_kind_word(&mut *a, z, words::IN_USE, kind, used + 1);
         r
     } else {
         0
@@ -74,12 +74,12 @@ pub fn give_back(a: &mut [u64], z: Shape, r: u64)
     ensures { λ _. ⌜ now (a .exit) ≡ giveBackWords z (now (a .entry)) r ⌝ }
 {
     let kind = r % 2;
-    let first = words::first_free(&*a, z, kind);
-    let used = words::in_use(&*a, z, kind);
+    let first = words::kind_word(&*a, z, words::FIRST_FREE, kind);
+    let used = words::kind_word(&*a, z, words::IN_USE, kind);
     let fewer = shares::fewer(used);
     blank(&mut *a, z, r);
     words::set_word(&mut *a, z, r, words::COUNT, 0);
     words::set_word(&mut *a, z, r, words::MARK, first);
-    words::set_first_free(&mut *a, z, kind, r);
-    words::set_in_use(&mut *a, z, kind, fewer);
+    words::set_kind_word(&mut *a, z, words::FIRST_FREE, kind, r);
+    words::set_kind_word(&mut *a, z, words::IN_USE, kind, fewer);
 }

@@ -5,8 +5,9 @@
 use crate::Shape;
 use crate::header;
 ghost use mathlib.Core.Path.{_≡_};
-ghost use mathlib.Core.Bool.{true};
-ghost use Prim.Native.Nat.{_+_, _<_};
+ghost use mathlib.Core.Bool.{true, cond};
+ghost use Prim.Native.Nat.{_+_, _≤_, _<_};
+ghost use lib.Dec.{eqb};
 ghost use lib.ListN.{set};
 ghost use Rattle.layout.specs.Layout.{widthOf, cellsOf, atCells, slotAt, wordAt, names, has, Allowed, Lent};
 ghost use Rattle.layout.specs.Columns.{slotWord, word, byKind, setWord, setSlotWord};
@@ -28,6 +29,11 @@ pub const KEY: u64 = 4;
 
 pub const VALUE: u64 = 5;
 
+// The words of the header that there is one of for each kind: the first free cell, and how many cells are in use.
+pub const FIRST_FREE: u64 = 8;
+
+pub const IN_USE: u64 = 10;
+
 // The places of a slot's words.
 pub const HELD: u64 = 0;
 
@@ -35,29 +41,32 @@ pub const ROOT: u64 = 1;
 
 pub const SIZE: u64 = 2;
 
+// What a branch has, or an entry: a choice between two numbers and no jump.
+fn pick(kind: u64, branch: u64, entry: u64) -> u64
+    ensures { λ r. ⌜ r ≡ cond (eqb kind 0) branch entry ⌝ }
+{
+    if kind == 0 { branch } else { entry }
+}
+
 // How many cells there are of a kind.
 pub fn cells_of(z: Shape, kind: u64) -> u64
     ensures { λ r. ⌜ r ≡ cellsOf z kind ⌝ }
 {
-    if kind == 0 { z.branches } else { z.entries }
+    pick(kind, z.branches, z.entries)
 }
 
 fn width_of(z: Shape, kind: u64) -> u64
     requires { ⌜ Allowed z ⌝ }
     ensures { λ r. ⌜ r ≡ widthOf z kind ⌝ }
 {
-    if kind == 0 { 3 + z.degree } else { 6 }
+    pick(kind, 3 + z.degree, 6)
 }
 
 fn at_cells(z: Shape, kind: u64) -> u64
     requires { ⌜ Allowed z ⌝ }
     ensures { λ r. ⌜ r ≡ atCells z kind ⌝ }
 {
-    if kind == 0 {
-        header::at_branches(z)
-    } else {
-        header::at_entries(z)
-    }
+    pick(kind, header::at_branches(z), header::at_entries(z))
 }
 
 // Whether a reference names a cell. References 0 and 1 name none.
@@ -127,36 +136,19 @@ pub fn set_slot_word(a: &mut [u64], z: Shape, s: u64, place: u64, v: u64)
     a[i] = v;
 }
 
-// Words 8 and 9: the first free cell of a kind.
-pub fn first_free(a: &[u64], z: Shape, kind: u64) -> u64
+// A word of the header that there is one of for each kind.
+pub fn kind_word(a: &[u64], z: Shape, base: u64, kind: u64) -> u64
     requires { ⌜ Lent z (now a) ⌝ }
-    requires { ⌜ kind < 2 ⌝ }
-    ensures { λ v. ⌜ v ≡ byKind (now (a .entry)) 8 kind ⌝ }
+    requires { ⌜ (base ≤ 10) × (kind < 2) ⌝ }
+    ensures { λ v. ⌜ v ≡ byKind (now (a .entry)) base kind ⌝ }
 {
-    a[(8 + kind) as usize]
+    a[(base + kind) as usize]
 }
 
-pub fn set_first_free(a: &mut [u64], z: Shape, kind: u64, v: u64)
+pub fn set_kind_word(a: &mut [u64], z: Shape, base: u64, kind: u64, v: u64)
     requires { ⌜ Lent z (now a) ⌝ }
-    requires { ⌜ kind < 2 ⌝ }
-    ensures { λ _. ⌜ now (a .exit) ≡ set (now (a .entry)) (8 + kind) v ⌝ }
+    requires { ⌜ (base ≤ 10) × (kind < 2) ⌝ }
+    ensures { λ _. ⌜ now (a .exit) ≡ set (now (a .entry)) (base + kind) v ⌝ }
 {
-    a[(8 + kind) as usize] = v;
-}
-
-// Words 10 and 11: how many cells of a kind are in use.
-pub fn in_use(a: &[u64], z: Shape, kind: u64) -> u64
-    requires { ⌜ Lent z (now a) ⌝ }
-    requires { ⌜ kind < 2 ⌝ }
-    ensures { λ v. ⌜ v ≡ byKind (now (a .entry)) 10 kind ⌝ }
-{
-    a[(10 + kind) as usize]
-}
-
-pub fn set_in_use(a: &mut [u64], z: Shape, kind: u64, v: u64)
-    requires { ⌜ Lent z (now a) ⌝ }
-    requires { ⌜ kind < 2 ⌝ }
-    ensures { λ _. ⌜ now (a .exit) ≡ set (now (a .entry)) (10 + kind) v ⌝ }
-{
-    a[(10 + kind) as usize] = v;
+    a[(base + kind) as usize] = v;
 }

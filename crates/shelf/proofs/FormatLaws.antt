@@ -3,7 +3,6 @@ use Prim.Native.Nat.{ℕ, _≤_, _<_}
 use mathlib.Core.Path.{_≡_, refl, sym, ap, _∙_, subst}
 use mathlib.Core.List.{List}
 use mathlib.Core.Logic.{⊎-elim}
-use native.Mathlib.Omega.{arith}
 use lib.ListN.{length}
 use borrow.Author.Tests.{le-leb, lt-leb}
 use Rattle.cases.proofs.Cases.{lt?}
@@ -23,24 +22,27 @@ use Rattle.arena.proofs.BlankArena.{blank-sound, blank-no-edition}
 use Rattle.shelf.specs.declared.Refusal.the-variants as Why
 use Rattle.shelf.specs.declared.Formatted.{Formatted}
 use Rattle.shelf.specs.declared.Formatted.the-variants as F
+use Rattle.shelf.specs.declared.Refusal.{Refusal}
+use Rattle.shelf.specs.Answers.{formatted, refused, done}
+use Rattle.shelf.proofs.AnswerLaws.{refused-not-done}
 use Rattle.shelf.specs.Calls.{Outcome, leaves, formatIn, formatOf}
 use Rattle.shelf.specs.Contracts.{Formats}
 
 -- THE CASES
 module _ (a : List ℕ) (y : Shaped) where
-  pub format-done : (z : Shape) → y ≡ Fits z → total z ≤ length a → formatIn a y ≡ leaves F.Done (blank z a)
+  pub format-done : (z : Shape) → y ≡ Fits z → total z ≤ length a → formatIn a y ≡ leaves (done 0 0) (blank z a)
   unfolding formatIn
   format-done z e l = rw (e, le-leb (total z) (length a) l)
 
-  pub format-short : (z : Shape) → y ≡ Fits z → length a < total z → formatIn a y ≡ leaves (F.Refused Why.SliceTooShort) a
+  pub format-short : (z : Shape) → y ≡ Fits z → length a < total z → formatIn a y ≡ leaves (refused Why.SliceTooShort) a
   unfolding formatIn
   format-short z e l = rw (e, lt-leb (total z) (length a) l)
 
-  pub format-degree : y ≡ BadDegree → formatIn a y ≡ leaves (F.Refused Why.BadDegree) a
+  pub format-degree : y ≡ BadDegree → formatIn a y ≡ leaves (refused Why.BadDegree) a
   unfolding formatIn
   format-degree e = rw e
 
-  pub format-sizes : y ≡ BadSizes → formatIn a y ≡ leaves (F.Refused Why.BadSizes) a
+  pub format-sizes : y ≡ BadSizes → formatIn a y ≡ leaves (refused Why.BadSizes) a
   unfolding formatIn
   format-sizes e = rw e
 
@@ -51,25 +53,19 @@ record Fitted (a : List ℕ) (y : Shaped) (b : List ℕ) : Type 0 where
   pub long : total shape ≤ length a
   pub laid : b ≡ blank shape a
 
-done-fitted : (a : List ℕ) (y : Shaped) (b : List ℕ) → leaves F.Done b ≡ formatIn a y → Fitted a y b
+not-done : (a b : List ℕ) (why : Refusal) → leaves (done 0 0) b ≡ leaves (refused why) a → ⊥
+not-done a b why e = refused-not-done why 0 0 (sym (ap (λ (o : Outcome). o .answer) e))
+
+done-fitted : (a : List ℕ) (y : Shaped) (b : List ℕ) → leaves (done 0 0) b ≡ formatIn a y → Fitted a y b
 done-fitted a (Fits z) b e =
     ⊎-elim
+    (λ l. absurd (not-done a b Why.SliceTooShort (e ∙ format-short a (Fits z) z refl l)))
     (λ l.
-    absurd
-    (let q : leaves F.Done b ≡ leaves (F.Refused Why.SliceTooShort) a = e ∙ format-short a (Fits z) z refl l in
-    let n : _≡_ {A = ℕ} 0 1 = cc (ap (λ (o : Outcome Formatted). o .answer) q) in omega arith))
-    (λ l.
-    let q : leaves F.Done b ≡ leaves F.Done (blank z a) = e ∙ format-done a (Fits z) z refl l in
-    record { shape = z; fits = refl; long = l; laid = ap (λ (o : Outcome Formatted). o .words) q })
+    let q : leaves (done 0 0) b ≡ leaves (done 0 0) (blank z a) = e ∙ format-done a (Fits z) z refl l in
+    record { shape = z; fits = refl; long = l; laid = ap (λ (o : Outcome). o .words) q })
     (lt? (length a) (total z))
-done-fitted a BadDegree b e =
-    absurd
-    (let q : leaves F.Done b ≡ leaves (F.Refused Why.BadDegree) a = e ∙ format-degree a BadDegree refl in
-    let n : _≡_ {A = ℕ} 0 1 = cc (ap (λ (o : Outcome Formatted). o .answer) q) in omega arith)
-done-fitted a BadSizes b e =
-    absurd
-    (let q : leaves F.Done b ≡ leaves (F.Refused Why.BadSizes) a = e ∙ format-sizes a BadSizes refl in
-    let n : _≡_ {A = ℕ} 0 1 = cc (ap (λ (o : Outcome Formatted). o .answer) q) in omega arith)
+done-fitted a BadDegree b e = absurd (not-done a b Why.BadDegree (e ∙ format-degree a BadDegree refl))
+done-fitted a BadSizes b e = absurd (not-done a b Why.BadSizes (e ∙ format-sizes a BadSizes refl))
 
 -- such an arena is sound and holds no edition
 module _ (a : List ℕ) (g n m s : ℕ) (b : List ℕ) (z : Shape) (fits : shapeOf g n m s ≡ Fits z) (long : total z ≤ length a) (laid : b ≡ blank z a) where
@@ -84,7 +80,7 @@ module _ (a : List ℕ) (g n m s : ℕ) (b : List ℕ) (z : Shape) (fits : shape
       (subst (λ (w : List ℕ). Edition z (columns z w) i x) laid (subst (λ (v : Shape). Edition v (columns v b) i x) q E))
 
 -- THE CONTRACT FOLLOWS FROM THE OUTCOME
-pub formats : (a : List ℕ) (g n m s : ℕ) (r : Formatted) (b : List ℕ) → leaves r b ≡ formatOf a g n m s → Formats a g n m s r b
+pub formats : (a : List ℕ) (g n m s : ℕ) (r : Formatted) (b : List ℕ) → leaves (formatted r) b ≡ formatOf a g n m s → Formats a g n m s r b
 formats a g n m s r b e =
     record {
       outcome = e;
@@ -93,4 +89,4 @@ formats a g n m s r b e =
     }
   where
     fitted : r ≡ F.Done → Fitted a (shapeOf g n m s) b
-    fitted d = done-fitted a (shapeOf g n m s) b (ap (λ (x : Formatted). leaves x b) (sym d) ∙ e)
+    fitted d = done-fitted a (shapeOf g n m s) b (ap (λ (x : Formatted). leaves (formatted x) b) (sym d) ∙ e)

@@ -1,3 +1,4 @@
+pub mod AnswerLaws
 pub mod PutLaws
 pub mod FormatLaws
 pub mod EditionLaws

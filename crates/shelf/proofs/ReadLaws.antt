@@ -7,7 +7,6 @@ use mathlib.Core.List.{List}
 use Rattle.trie.specs.Trie.{size}
 use Rattle.layout.specs.declared.Shape.{Shape}
 use Rattle.layout.specs.Header.{headerOf}
-use Rattle.layout.specs.Columns.{slotWord, byKind}
 use Rattle.layout.proofs.HeaderLaws.{header-says}
 use Rattle.cells.specs.Slots.{heldSlot}
 use Rattle.cells.proofs.SlotLaws.{held-is}
@@ -16,36 +15,51 @@ use Rattle.shelf.specs.declared.Counted.{Counted}
 use Rattle.shelf.specs.declared.Counted.the-variants as C
 use Rattle.shelf.specs.declared.InUse.{InUse}
 use Rattle.shelf.specs.declared.InUse.the-variants as U
-use Rattle.shelf.specs.Calls.{sizeIn, sizeOf, inUseOf}
+use Rattle.shelf.specs.Answers.{Answer, counted, inUse, refused, done}
+use Rattle.shelf.proofs.AnswerLaws.{refused-not-done, done-value}
+use Rattle.shelf.specs.Calls.{sizeWord, sizeIn, sizeOf, inUseOf}
 use Rattle.shelf.specs.Contracts.{Sizes, Uses}
 use Rattle.shelf.proofs.EditionLaws.{header-right}
 
-pub size-held : (z : Shape) (a : List ℕ) (e : ℕ) → heldSlot z a e ≡ true → sizeIn z a e ≡ C.Entries (slotWord z a e 2)
+pub size-held : (z : Shape) (a : List ℕ) (e : ℕ) → heldSlot z a e ≡ true → sizeIn z a e ≡ done (sizeWord z a e) 0
 unfolding sizeIn
 size-held z a e h = rw h
 
-pub size-not-held : (z : Shape) (a : List ℕ) (e : ℕ) → heldSlot z a e ≡ false → sizeIn z a e ≡ C.Refused Why.NoSuchEdition
+pub size-not-held : (z : Shape) (a : List ℕ) (e : ℕ) → heldSlot z a e ≡ false → sizeIn z a e ≡ refused Why.NoSuchEdition
 unfolding sizeIn
 size-not-held z a e h = rw h
 
-pub sizes : (a : List ℕ) (e : ℕ) (r : Counted) → r ≡ sizeOf a e → Sizes a e r
+-- an answer that is done is of the case that is
+counted-done : (r : Counted) (n : ℕ) → counted r ≡ done n 0 → r ≡ C.Entries n
+counted-done (C.Entries m) n e = ap C.Entries (done-value m 0 n 0 e)
+counted-done (C.Refused why) n e = absurd (refused-not-done why n 0 e)
+
+in-use-done : (r : InUse) (b n : ℕ) → inUse r ≡ done b n → r ≡ U.Cells b n
+in-use-done (U.Cells x y) b n e =
+    let p = ap (λ (w : Answer). w .a) e in
+    let q = ap (λ (w : Answer). w .b) e in
+    λ i. U.Cells (p i) (q i)
+in-use-done (U.Refused why) b n e = absurd (refused-not-done why b n e)
+
+pub sizes : (a : List ℕ) (e : ℕ) (r : Counted) → counted r ≡ sizeOf a e → Sizes a e r
 sizes a e r q =
     record {
       result = q;
       shown =
           λ z h m E.
-          q ∙ header-right (headerOf a) _ (λ y. sizeIn y a e) z (header-says a z .1 h) ∙ size-held z a e (held-is z a e (E .slot) (E .held))
-          ∙ ap C.Entries (E .sized);
+          counted-done r (size m)
+          (q ∙ header-right (headerOf a) _ (λ y. sizeIn y a e) z (header-says a z .1 h) ∙ size-held z a e (held-is z a e (E .slot) (E .held))
+          ∙ ap (λ (n : ℕ). done n 0) (E .sized));
     }
 
-pub uses : (a : List ℕ) (r : InUse) → r ≡ inUseOf a → Uses a r
+pub uses : (a : List ℕ) (r : InUse) → inUse r ≡ inUseOf a → Uses a r
 uses a r q =
     record {
       result = q;
       reached =
           λ S.
-          let e = header-right (headerOf a) (U.Refused Why.Damaged) (λ y. U.Cells (byKind a 10 0) (byKind a 10 1)) (S .shape) (header-says a (S .shape) .1 (S .header)) in
           let b = S .cells .in-use 0 in
           let n = S .cells .in-use 1 in
-          q ∙ e ∙ (λ i. U.Cells (b i) (n i));
+          in-use-done r _ _
+          (q ∙ header-right (headerOf a) _ _ (S .shape) (header-says a (S .shape) .1 (S .header)) ∙ (λ i. done (b i) (n i)));
     }

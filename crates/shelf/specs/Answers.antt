@@ -21,7 +21,7 @@ abbrev pub answer : ℕ → ℕ → ℕ → ℕ → Answer
 answer n x y w = record { number = n; a = x; b = y; c = w }
 
 -- the table's numbers 1 to 12
-unfoldable pub numberOf : Refusal → ℕ
+abbrev pub numberOf : Refusal → ℕ
 numberOf BadDegree = 1
 numberOf BadSizes = 2
 numberOf SliceTooShort = 3
@@ -38,18 +38,21 @@ numberOf WorkTooShort = 12
 abbrev pub refused : Refusal → Answer
 refused r = answer (numberOf r) 0 0 0
 
-unfoldable pub formatted : Formatted → Answer
-formatted F.Done = answer 0 0 0 0
+abbrev pub done : ℕ → ℕ → Answer
+done x y = answer 0 x y 0
+
+abbrev pub formatted : Formatted → Answer
+formatted F.Done = done 0 0
 formatted (F.Refused r) = refused r
 
-unfoldable pub made : Made → Answer
-made (M.Edition e) = answer 0 e 0 0
+abbrev pub made : Made → Answer
+made (M.Edition e) = done e 0
 made (M.Refused r) = refused r
 
-unfoldable pub counted : Counted → Answer
-counted (C.Entries n) = answer 0 n 0 0
+abbrev pub counted : Counted → Answer
+counted (C.Entries n) = done n 0
 counted (C.Refused r) = refused r
 
-unfoldable pub inUse : InUse → Answer
-inUse (U.Cells b n) = answer 0 b n 0
+abbrev pub inUse : InUse → Answer
+inUse (U.Cells b n) = done b n
 inUse (U.Refused r) = refused r

@@ -18,21 +18,14 @@ use Rattle.cells.specs.declared.Slot.the-variants.{At, NoneFree}
 use Rattle.cells.specs.Slots.{heldSlot, freeSlot}
 use Rattle.cells.specs.Mirrors.{shareWords}
 use Rattle.shelf.specs.declared.Refusal.the-variants as Why
-use Rattle.shelf.specs.declared.Formatted.{Formatted}
-use Rattle.shelf.specs.declared.Formatted.the-variants as F
-use Rattle.shelf.specs.declared.Made.{Made}
-use Rattle.shelf.specs.declared.Made.the-variants as M
-use Rattle.shelf.specs.declared.Counted.{Counted}
-use Rattle.shelf.specs.declared.Counted.the-variants as C
-use Rattle.shelf.specs.declared.InUse.{InUse}
-use Rattle.shelf.specs.declared.InUse.the-variants as U
+use Rattle.shelf.specs.Answers.{Answer, refused, done}
 
 -- an answer, and the words of the arena afterwards
-pub record Outcome (A : Type 0) : Type 0 where
-  pub answer : A
+pub record Outcome : Type 0 where
+  pub answer : Answer
   pub words : List ℕ
 
-abbrev pub leaves : {A : Type 0} → A → List ℕ → Outcome A
+abbrev pub leaves : Answer → List ℕ → Outcome
 leaves r b = record { answer = r; words = b }
 
 -- 4 first: "words 0 to 7 wrong, or the slice shorter than 12 words or the total"
@@ -41,47 +34,53 @@ onHeader Wrong x f = x
 onHeader (Right z) x f = f z
 
 -- 7: "a new edition wanted, all S held"
-unfoldable pub onSlot : {A : Type 0} → Slot → A → (ℕ → A) → A
+unfoldable pub onSlot : Slot → Outcome → (ℕ → Outcome) → Outcome
 onSlot NoneFree x f = x
 onSlot (At s) x f = f s
 
 -- FORMAT. "Format tests in the order 1, 2, 3."
-unfoldable pub formatIn : List ℕ → Shaped → Outcome Formatted
-formatIn a (Fits z) = cond (leb (total z) (length a)) (leaves F.Done (blank z a)) (leaves (F.Refused Why.SliceTooShort) a)
-formatIn a BadDegree = leaves (F.Refused Why.BadDegree) a
-formatIn a BadSizes = leaves (F.Refused Why.BadSizes) a
+unfoldable pub formatIn : List ℕ → Shaped → Outcome
+formatIn a (Fits z) = cond (leb (total z) (length a)) (leaves (done 0 0) (blank z a)) (leaves (refused Why.SliceTooShort) a)
+formatIn a BadDegree = leaves (refused Why.BadDegree) a
+formatIn a BadSizes = leaves (refused Why.BadSizes) a
 
-abbrev pub formatOf : List ℕ → ℕ → ℕ → ℕ → ℕ → Outcome Formatted
+abbrev pub formatOf : List ℕ → ℕ → ℕ → ℕ → ℕ → Outcome
 formatOf a degree branches entries editions = formatIn a (shapeOf degree branches entries editions)
 
 -- NEW EDITION. "New edition, share, .. put the result in the lowest free slot and keep the old edition. A new edition is empty";
 -- it takes no cell.
-unfoldable pub newEditionIn : Shape → List ℕ → Outcome Made
-newEditionIn z a = onSlot (freeSlot z a) (leaves (M.Refused Why.NoSlot) a) (λ s. leaves (M.Edition s) (setSlotWords z a s 1 0 0))
+unfoldable pub newTo : Shape → List ℕ → ℕ → List ℕ
+newTo z a s = setSlotWords z a s 1 0 0
 
-abbrev pub newEditionOf : List ℕ → Outcome Made
-newEditionOf a = onHeader (headerOf a) (leaves (M.Refused Why.Damaged) a) (λ z. newEditionIn z a)
+unfoldable pub newEditionIn : Shape → List ℕ → Outcome
+newEditionIn z a = onSlot (freeSlot z a) (leaves (refused Why.NoSlot) a) (λ s. leaves (done s 0) (newTo z a s))
 
--- SHARE. "A share has the old edition's root and size"; the root's count rises by one.
+abbrev pub newEditionOf : List ℕ → Outcome
+newEditionOf a = onHeader (headerOf a) (leaves (refused Why.Damaged) a) (λ z. newEditionIn z a)
+
+-- SHARE. "A share has the old edition's root and size"; the root's count rises by one. 5: "number not below S, or not held".
 unfoldable pub shareTo : Shape → List ℕ → ℕ → ℕ → List ℕ
 shareTo z a e s = setSlotWords z (shareWords z a (slotWord z a e 1)) s 1 (slotWord z a e 1) (slotWord z a e 2)
 
-unfoldable pub shareHeld : Shape → List ℕ → ℕ → Outcome Made
-shareHeld z a e = onSlot (freeSlot z a) (leaves (M.Refused Why.NoSlot) a) (λ s. leaves (M.Edition s) (shareTo z a e s))
+unfoldable pub shareHeld : Shape → List ℕ → ℕ → Outcome
+shareHeld z a e = onSlot (freeSlot z a) (leaves (refused Why.NoSlot) a) (λ s. leaves (done s 0) (shareTo z a e s))
 
-unfoldable pub shareIn : Shape → List ℕ → ℕ → Outcome Made
-shareIn z a e = cond (heldSlot z a e) (shareHeld z a e) (leaves (M.Refused Why.NoSuchEdition) a)
+unfoldable pub shareIn : Shape → List ℕ → ℕ → Outcome
+shareIn z a e = cond (heldSlot z a e) (shareHeld z a e) (leaves (refused Why.NoSuchEdition) a)
 
-abbrev pub shareOf : List ℕ → ℕ → Outcome Made
-shareOf a e = onHeader (headerOf a) (leaves (M.Refused Why.Damaged) a) (λ z. shareIn z a e)
+abbrev pub shareOf : List ℕ → ℕ → Outcome
+shareOf a e = onHeader (headerOf a) (leaves (refused Why.Damaged) a) (λ z. shareIn z a e)
 
 -- SIZE: the third word of the slot
-unfoldable pub sizeIn : Shape → List ℕ → ℕ → Counted
-sizeIn z a e = cond (heldSlot z a e) (C.Entries (slotWord z a e 2)) (C.Refused Why.NoSuchEdition)
+abbrev pub sizeWord : Shape → List ℕ → ℕ → ℕ
+sizeWord z a e = slotWord z a e 2
 
-abbrev pub sizeOf : List ℕ → ℕ → Counted
-sizeOf a e = onHeader (headerOf a) (C.Refused Why.Damaged) (λ z. sizeIn z a e)
+unfoldable pub sizeIn : Shape → List ℕ → ℕ → Answer
+sizeIn z a e = cond (heldSlot z a e) (done (sizeWord z a e) 0) (refused Why.NoSuchEdition)
+
+abbrev pub sizeOf : List ℕ → ℕ → Answer
+sizeOf a e = onHeader (headerOf a) (refused Why.Damaged) (λ z. sizeIn z a e)
 
 -- IN USE: words 10 and 11
-abbrev pub inUseOf : List ℕ → InUse
-inUseOf a = onHeader (headerOf a) (U.Refused Why.Damaged) (λ z. U.Cells (byKind a 10 0) (byKind a 10 1))
+abbrev pub inUseOf : List ℕ → Answer
+inUseOf a = onHeader (headerOf a) (refused Why.Damaged) (λ z. done (byKind a 10 0) (byKind a 10 1))

@@ -17,6 +17,7 @@ use layout::words;
 ghost use mathlib.Core.Path.{_≡_};
 ghost use Prim.Native.Nat.{_<_};
 ghost use Rattle.layout.specs.Layout.{Lent};
+ghost use Rattle.shelf.specs.Answers.{numberOf, made, counted};
 ghost use Rattle.shelf.specs.Calls.{leaves, newEditionIn, shareHeld, shareIn, sizeIn};
 ghost use Rattle.shelf.specs.Contracts.{Formats, MakesNew, Shares, Sizes, Uses};
 
@@ -34,6 +35,28 @@ pub enum Refusal {
     OutputTooShort,
     BeyondTheEnd,
     WorkTooShort,
+}
+
+impl Refusal {
+    // Document 01's number.
+    pub fn number(self) -> u64
+        ensures { λ r. ⌜ r ≡ numberOf self ⌝ }
+    {
+        match self {
+            Refusal::BadDegree => 1,
+            Refusal::BadSizes => 2,
+            Refusal::SliceTooShort => 3,
+            Refusal::Damaged => 4,
+            Refusal::NoSuchEdition => 5,
+            Refusal::Absent => 6,
+            Refusal::NoSlot => 7,
+            Refusal::NoBranchCells => 8,
+            Refusal::NoEntryCells => 9,
+            Refusal::OutputTooShort => 10,
+            Refusal::BeyondTheEnd => 11,
+            Refusal::WorkTooShort => 12,
+        }
+    }
 }
 
 pub enum Formatted {
@@ -77,7 +100,7 @@ pub fn format(a: &mut [u64], degree: u64, branches: u64, entries: u64, editions:
 
 fn new_edition_in(a: &mut [u64], z: Shape) -> Made
     requires { ⌜ Lent z (now a) ⌝ }
-    ensures { λ r. ⌜ leaves r (now (a .exit)) ≡ newEditionIn z (now (a .entry)) ⌝ }
+    ensures { λ r. ⌜ leaves (made r) (now (a .exit)) ≡ newEditionIn z (now (a .entry)) ⌝ }
 {
     match slots::lowest_free(&*a, z) {
         Slot::At(s) => {
@@ -101,7 +124,7 @@ pub fn new_edition(a: &mut [u64]) -> Made
 fn share_held(a: &mut [u64], z: Shape, edition: u64) -> Made
     requires { ⌜ Lent z (now a) ⌝ }
     requires { ⌜ edition < z .slots ⌝ }
-    ensures { λ r. ⌜ leaves r (now (a .exit)) ≡ shareHeld z (now (a .entry)) edition ⌝ }
+    ensures { λ r. ⌜ leaves (made r) (now (a .exit)) ≡ shareHeld z (now (a .entry)) edition ⌝ }
 {
     match slots::lowest_free(&*a, z) {
         Slot::At(s) => {
@@ -117,7 +140,7 @@ fn share_held(a: &mut [u64], z: Shape, edition: u64) -> Made
 
 fn share_in(a: &mut [u64], z: Shape, edition: u64) -> Made
     requires { ⌜ Lent z (now a) ⌝ }
-    ensures { λ r. ⌜ leaves r (now (a .exit)) ≡ shareIn z (now (a .entry)) edition ⌝ }
+    ensures { λ r. ⌜ leaves (made r) (now (a .exit)) ≡ shareIn z (now (a .entry)) edition ⌝ }
 {
     if slots::is_held(&*a, z, edition) {
         share_held(a, z, edition)
@@ -138,7 +161,7 @@ pub fn share(a: &mut [u64], edition: u64) -> Made
 
 fn size_in(a: &[u64], z: Shape, edition: u64) -> Counted
     requires { ⌜ Lent z (now a) ⌝ }
-    ensures { λ r. ⌜ r ≡ sizeIn z (now (a .entry)) edition ⌝ }
+    ensures { λ r. ⌜ counted r ≡ sizeIn z (now (a .entry)) edition ⌝ }
 {
     if slots::is_held(a, z, edition) {
         Counted::Entries(words::slot_word(a, z, edition, words::SIZE))
@@ -163,8 +186,8 @@ pub fn in_use(a: &[u64]) -> InUse
 {
     match header::read(a) {
         Heading::Right(z) => InUse::Cells {
-            branches: words::in_use(a, z, 0),
-            entries: words::in_use(a, z, 1),
+            branches: words::kind_word(a, z, words::IN_USE, 0),
+            entries: words::kind_word(a, z, words::IN_USE, 1),
         },
         Heading::Wrong => InUse::Refused(Refusal::Damaged),
     }

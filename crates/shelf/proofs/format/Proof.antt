@@ -1,3 +1,5 @@
+-- `shelf::format` meets its contract: a shape that fits is allowed, the test of the length is the one before 3, and the
+-- rest of the contract follows from the outcome. Assumes nothing.
 use native.Mathlib.Omega.{arith}
 use Rattle.shelf.proofs.FormatLaws.{format-done, format-short, format-degree, format-sizes, formats}
 use Rattle.layout.proofs.HeaderLaws.{fits-says}

@@ -1,3 +1,5 @@
+-- `shelf::new_edition` meets its contract: the header is read first, and the rest of the contract follows from the
+-- outcome. Assumes nothing.
 use Rattle.shelf.proofs.EditionLaws.{header-right, header-wrong, makes-new}
 use Rattle.layout.proofs.HeaderLaws.{header-says, header-lent}
 use mathlib.Core.Path.{sym, _∙_}

@@ -1,3 +1,6 @@
+-- `shelf::new_edition_in` meets its contract: the lowest free slot is a slot, and it is written as the definition says.
+-- Assumes nothing.
+use Rattle.shelf.specs.Calls.{newTo}
 use Rattle.cells.proofs.SlotLaws.{free-slot-lowest}
 use Rattle.shelf.proofs.EditionLaws.{new-at, new-none}
 use mathlib.Core.Path.{sym, _∙_}
@@ -21,6 +24,7 @@ same-length : tie.Need-same-length
 same-length c = search needs
 
 returns : tie.Need-returns
+unfolding newTo
 returns c = cc (c .before .before .hold .ensures) ∙ sym (new-at _ _ _ (sym (c .before .before .before .before .before .before .before .lowest-free .ensures) ∙ c .before .before .before .before .before .s .given .1))
 
 same-length-2 : tie.Need-same-length-2

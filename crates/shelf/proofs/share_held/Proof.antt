@@ -1,3 +1,4 @@
+-- `shelf::share_held` meets its contract: root and size are read before the first store. Assumes nothing.
 use Rattle.shelf.specs.Calls.{shareTo}
 use Rattle.cells.proofs.SlotLaws.{free-slot-lowest}
 use Rattle.shelf.proofs.EditionLaws.{share-at, share-none-free}

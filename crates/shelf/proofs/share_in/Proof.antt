@@ -1,3 +1,4 @@
+-- `shelf::share_in` meets its contract: the edition is looked for before a slot is. Assumes nothing.
 use Rattle.cells.proofs.SlotLaws.{held-says}
 use Rattle.shelf.proofs.EditionLaws.{share-held, share-not-held}
 use mathlib.Core.Path.{sym, _∙_}

@@ -1,3 +1,5 @@
+-- `shelf::size` meets its contract: the header is read first, and the rest of the contract follows from the answer.
+-- Assumes nothing.
 use Rattle.shelf.proofs.EditionLaws.{header-right, header-wrong}
 use Rattle.layout.proofs.HeaderLaws.{header-says, header-lent}
 use Rattle.shelf.proofs.ReadLaws.{sizes}

@@ -1,5 +1,7 @@
+-- `shelf::size_in` meets its contract: only a slot that is there is read. Assumes nothing.
+use Prim.Native.Nat.{ℕ}
+use Rattle.shelf.specs.Answers.{done}
 use native.Mathlib.Omega.{arith}
-use Rattle.shelf.specs.declared.Counted.the-variants as C
 use Rattle.cells.proofs.SlotLaws.{held-says}
 use Rattle.shelf.proofs.ReadLaws.{size-held, size-not-held}
 use mathlib.Core.Path.{sym, _∙_, ap}
@@ -14,7 +16,7 @@ slot-word-requires : tie.Need-slot-word-requires
 slot-word-requires c κs = (c .before .before .before .pre, (held-says _ _ _ (sym (c .before .is-held .ensures) ∙ c .if1 .taken) .0, omega (arith, c .before .before .before .pre .allowed .wide)))
 
 returns : tie.Need-returns
-returns c = ap C.Entries (c .slot-word .ensures) ∙ sym (size-held _ _ _ (sym (c .before .before .is-held .ensures) ∙ c .before .if1 .taken))
+returns c = ap (λ (n : ℕ). done n 0) (c .slot-word .ensures) ∙ sym (size-held _ _ _ (sym (c .before .before .is-held .ensures) ∙ c .before .if1 .taken))
 
 returns-2 : tie.Need-returns-2
 returns-2 c = sym (size-not-held _ _ _ (sym (c .before .is-held .ensures) ∙ c .if1 .left))

@@ -1,3 +1,4 @@
+-- `cells::fill::fill_branch` meets its contract: two stores, then the row. Assumes nothing.
 use native.Mathlib.Omega.{arith}
 use Rattle.cells.specs.Mirrors.{fillBranchWords}
 use Rattle.layout.proofs.ColumnLaws.{has-low}

@@ -1,3 +1,4 @@
+-- `cells::fill::fill_entry` meets its contract: five stores into a cell that has six words. Assumes nothing.
 use native.Mathlib.Omega.{arith}
 use Rattle.cells.specs.Mirrors.{fillEntryWords}
 use Rattle.layout.proofs.ColumnLaws.{has-entry}

@@ -1,3 +1,4 @@
+-- `cells::fill::fill_row` meets its contract: after k turns the first k words of the row are written. Assumes nothing.
 use Rattle.cells.proofs.RowLaws.{row-end, row-none, row-next}
 use Prim.Native.Nat.{_-_, _≤_}
 use mathlib.Core.Path.{_≡_, refl, sym}

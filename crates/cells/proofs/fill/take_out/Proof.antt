@@ -1,3 +1,5 @@
+-- `cells::fill::take_out` meets its contract: the place of a reference is inside its cell, and what stood there is what
+-- the columns say. Assumes nothing.
 use native.Mathlib.Omega.{arith}
 use Rattle.layout.proofs.ColumnLaws.{has-kid, refs-few, kid-in}
 use mathlib.Core.Path.{sym, _∙_}

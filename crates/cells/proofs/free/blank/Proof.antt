@@ -1,3 +1,4 @@
+-- `cells::free::blank` meets its contract: a branch has one word that is no reference, an entry three. Assumes nothing.
 use native.Mathlib.Omega.{arith}
 use borrow.Author.Tests.{eq-eqb, ne-eqb}
 use Rattle.cells.specs.Mirrors.{blankWords}

@@ -1,3 +1,5 @@
+-- `cells::free::may_take` meets its contract: its tests are those of `takeable`, and a count is read only of a cell.
+-- Assumes nothing.
 use native.Mathlib.Omega.{arith}
 use borrow.Author.Tests.{eq-eqb, ne-eqb}
 use Rattle.cells.specs.Mirrors.{takeable}
@@ -13,15 +15,15 @@ is-cell-requires c κs = search needs
 word-requires : tie.Need-word-requires
 word-requires c κs = (search needs, has-low _ _ _ (sym (c .before .before .is-cell .ensures) ∙ c .before .if1 .taken) (omega arith))
 
-in-use-requires : tie.Need-in-use-requires
-in-use-requires c κs = search needs
+kind-word-requires : tie.Need-kind-word-requires
+kind-word-requires c κs = search needs
 
 cells-of-requires : tie.Need-cells-of-requires
 cells-of-requires c κs = search needs
 
 returns : tie.Need-returns
 unfolding takeable
-returns c = rw (sym (c .before .before .before .before .before .before .is-cell .ensures) ∙ c .before .before .before .before .before .if1 .taken, eq-eqb _ _ (c .before .before .before .before .if2 .taken), eq-eqb _ _ (sym (c .before .before .before .word .ensures) ∙ c .before .before .if3 .taken), sym (c .before .in-use .ensures), sym (c .cells-of .ensures))
+returns c = rw (sym (c .before .before .before .before .before .before .is-cell .ensures) ∙ c .before .before .before .before .before .if1 .taken, eq-eqb _ _ (c .before .before .before .before .if2 .taken), eq-eqb _ _ (sym (c .before .before .before .word .ensures) ∙ c .before .before .if3 .taken), sym (c .before .kind-word .ensures), sym (c .cells-of .ensures))
 
 returns-2 : tie.Need-returns-2
 unfolding takeable
@@ -41,7 +43,7 @@ may-take-spec =
     (tie.spec
     is-cell-requires
     word-requires
-    in-use-requires
+    kind-word-requires
     cells-of-requires
     returns
     returns-2

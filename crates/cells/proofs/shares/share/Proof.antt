@@ -1,3 +1,4 @@
+-- `cells::shares::share` meets its contract: the count is tested before it rises. Assumes nothing.
 use native.Mathlib.Omega.{arith}
 use borrow.Author.Tests.{lt-ltb, le-ltb}
 use Rattle.cells.specs.Mirrors.{shareWords}

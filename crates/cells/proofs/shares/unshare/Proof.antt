@@ -1,3 +1,4 @@
+-- `cells::shares::unshare` meets its contract: a cell has a count. Assumes nothing.
 use native.Mathlib.Omega.{arith}
 use Rattle.layout.proofs.ColumnLaws.{has-low}
 use borrow.Author.Needs.{needs}

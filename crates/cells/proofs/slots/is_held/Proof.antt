@@ -1,3 +1,4 @@
+-- `cells::slots::is_held` meets its contract: the number is tested before the slot is read. Assumes nothing.
 use native.Mathlib.Omega.{arith}
 use Rattle.cells.specs.Slots.{heldSlot}
 use borrow.Author.Tests.{lt-ltb, le-ltb}

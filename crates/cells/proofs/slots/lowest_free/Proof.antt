@@ -1,3 +1,5 @@
+-- `cells::slots::lowest_free` meets its contract: what is still to be searched gives what the whole search gives. Assumes
+-- nothing.
 use native.Mathlib.Omega.{arith}
 use Rattle.cells.proofs.SlotLaws.{free-start, free-here, free-next, free-none}
 use Rattle.cells.specs.Slots.{freeFrom, freeSlot}

@@ -1,3 +1,4 @@
+-- `cells::slots::set_slot` meets its contract: a slot has three words at least. Assumes nothing.
 use Rattle.layout.specs.Columns.{setSlotWords}
 use borrow.Author.Needs.{needs}
 use Rattle.cells.proofs.slots.set_slot.Statement.{statement}

@@ -1,3 +1,5 @@
+-- `layout::header::at_branches` meets its contract: the slots of an allowed shape have few words, so neither the product
+-- nor the sum overflows. Assumes nothing.
 use native.Mathlib.Omega.{arith}
 use borrow.Author.Needs.{needs}
 use Rattle.layout.proofs.SizeLaws.{small}

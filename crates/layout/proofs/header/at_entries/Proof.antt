@@ -1,3 +1,5 @@
+-- `layout::header::at_entries` meets its contract: the branch cells of an allowed shape have few words, so no sum
+-- overflows. Assumes nothing.
 use native.Mathlib.Omega.{arith}
 use Rattle.layout.proofs.SizeLaws.{small}
 use borrow.Author.Needs.{needs}

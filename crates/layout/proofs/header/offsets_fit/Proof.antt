@@ -1,3 +1,5 @@
+-- `layout::header::offsets_fit` meets its contract: words 5 to 7 are compared with the offsets of the shape, which its
+-- callees compute without overflow. Assumes nothing.
 use Rattle.layout.specs.Header.{offsetsFit}
 use borrow.Author.Tests.{eq-eqb, ne-eqb}
 use mathlib.Core.Path.{sym, _∙_}

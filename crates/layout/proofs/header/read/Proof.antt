@@ -1,3 +1,5 @@
+-- `layout::header::read` meets its contract: 12 words are there before any is read, and the tests are those of `headerOf`.
+-- Assumes nothing.
 use Rattle.layout.specs.Header.{headerOf}
 use borrow.Author.Tests.{le-leb, lt-leb, eq-eqb, ne-eqb}
 use borrow.Author.Needs.{needs}

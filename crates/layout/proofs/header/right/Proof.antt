@@ -1,3 +1,5 @@
+-- `layout::header::right` meets its contract: a shape that fits is allowed, so its offsets can be computed, and the rest
+-- is the test of them. Assumes nothing.
 use Rattle.layout.specs.Header.{rightIn}
 use Rattle.layout.proofs.HeaderLaws.{fits-says, right-is, right-not}
 use mathlib.Core.Path.{sym, _∙_}

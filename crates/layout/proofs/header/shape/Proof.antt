@@ -1,3 +1,5 @@
+-- `layout::header::shape` meets its contract: each answer is one of the cases of `shapeOf`, at the row that `degree_row`
+-- answered. Assumes nothing.
 use Rattle.layout.proofs.HeaderLaws.{shape-fits, shape-sizes, shape-degree}
 use mathlib.Core.Path.{sym, _∙_}
 use borrow.Author.Needs.{needs}

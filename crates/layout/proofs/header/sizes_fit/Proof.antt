@@ -1,3 +1,5 @@
+-- `layout::header::sizes_fit` meets its contract: each size is tested against its limit, in the definition's order.
+-- Assumes nothing.
 use Rattle.layout.specs.Header.{sizesFit}
 use mathlib.Core.Path.{sym, _∙_}
 use borrow.Author.Needs.{needs}

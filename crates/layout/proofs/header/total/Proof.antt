@@ -1,3 +1,5 @@
+-- `layout::header::total` meets its contract: an arena has fewer than a hundred million words, so the sum does not
+-- overflow. Assumes nothing.
 use native.Mathlib.Omega.{arith}
 use Rattle.layout.proofs.SizeLaws.{small}
 use borrow.Author.Needs.{needs}

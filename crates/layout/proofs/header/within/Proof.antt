@@ -1,3 +1,4 @@
+-- `layout::header::within` meets its contract: its tests are those of the definition, in their order. Assumes nothing.
 use Rattle.layout.specs.Header.{within}
 use borrow.Author.Tests.{le-leb, lt-leb}
 use Rattle.layout.proofs.header.within.Statement.{statement}

@@ -1,3 +1,4 @@
+-- `layout::words::is_cell` meets its contract: its tests are those of `names`. Assumes nothing.
 use Rattle.layout.specs.Layout.{names}
 use borrow.Author.Tests.{lt-ltb, le-ltb}
 use borrow.Author.Needs.{needs}

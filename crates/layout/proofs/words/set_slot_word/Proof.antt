@@ -1,3 +1,4 @@
+-- `layout::words::set_slot_word` meets its contract: a word of a slot lies inside the slice. Assumes nothing.
 use native.Mathlib.Omega.{arith}
 use Rattle.layout.proofs.OffsetLaws.{slot-lent}
 use borrow.Author.Needs.{needs}

@@ -1,3 +1,4 @@
+-- `layout::words::set_word` meets its contract: a word of a cell lies inside the slice. Assumes nothing.
 use native.Mathlib.Omega.{arith}
 use Rattle.layout.proofs.OffsetLaws.{word-lent}
 use borrow.Author.Needs.{needs}

@@ -1,3 +1,5 @@
+-- `layout::words::slot_at` meets its contract: a word of a slot lies before the branch cells, so no sum on the way to its
+-- offset overflows. Assumes nothing.
 use native.Mathlib.Omega.{arith}
 use Rattle.layout.proofs.OffsetLaws.{place-lt}
 use Rattle.layout.specs.Layout.{slotAt}

@@ -1,3 +1,4 @@
+-- `layout::words::slot_word` meets its contract: a word of a slot lies inside the slice. Assumes nothing.
 use Rattle.layout.proofs.StoreLaws.{slot-in}
 use mathlib.Core.Path.{sym}
 use native.Mathlib.Omega.{arith}

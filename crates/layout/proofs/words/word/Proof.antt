@@ -1,3 +1,4 @@
+-- `layout::words::word` meets its contract: a word of a cell lies inside the slice. Assumes nothing.
 use Rattle.layout.proofs.StoreLaws.{word-in}
 use mathlib.Core.Path.{sym}
 use native.Mathlib.Omega.{arith}

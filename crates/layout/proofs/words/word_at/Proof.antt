@@ -1,3 +1,5 @@
+-- `layout::words::word_at` meets its contract: a word of a cell lies inside the arena, so no sum on the way to its offset
+-- overflows. Assumes nothing.
 use native.Mathlib.Omega.{arith}
 use Rattle.layout.specs.Layout.{wordAt}
 use Prim.Native.Nat.{ℕ, _-_, _*_, _/_}
