@@ -10,7 +10,8 @@ use borrow.Author.Tests.{le-ltb}
 use Rattle.cases.proofs.Cases.{split}
 use Rattle.layout.specs.declared.Shape.{Shape}
 use Rattle.layout.specs.Layout.{kindOf, names, has}
-use Rattle.layout.specs.Columns.{State, columns, word, refs, byKind, plainPlace, plainsOf}
+use Rattle.layout.specs.Columns.{State, columns, word, refs, plainPlace, plainsOf}
+use Rattle.layout.proofs.StoreLaws.{kind-out}
 use Rattle.arena.proofs.RefLaws.{names-refs}
 
 pub record Clipped (z : Shape) (σ : State) : Type 0 where
@@ -32,15 +33,11 @@ zero-else : (b : Bool) (x : ℕ) → x ≡ 0 → cond b x 0 ≡ 0
 zero-else true x e = e
 zero-else false x e = refl
 
-no-header : (a : List ℕ) (base p : ℕ) → 2 ≤ p → byKind a base p ≡ 0
-unfolding byKind
-no-header a base p l = rw (le-ltb p 2 l)
-
 pub columns-clipped : (z : Shape) (a : List ℕ) → 0 < z .degree → Clipped z (columns z a)
 columns-clipped z a d =
     record {
-      no-first = no-header a 8;
-      no-used = no-header a 10;
+      no-first = kind-out a 8;
+      no-used = kind-out a 10;
       no-count = λ r e. no-word z a r 0 (not-named z d r e);
       no-mark = λ r e. no-word z a r 1 (not-named z d r e);
       no-kid = λ r k l. rw (le-ltb k (refs z r) l);

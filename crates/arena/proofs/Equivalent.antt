@@ -24,7 +24,8 @@ use Rattle.layout.specs.Header.{Header}
 use Rattle.layout.specs.Columns.{State, columns, refs}
 use Rattle.arena.specs.Sound.{top, FreeSlot, HeldSlot, Reached, naming, reachedOf, Cells, Sound}
 use Rattle.arena.specs.Local.{cell, num, occ, Local, LocallySound}
-use Rattle.arena.proofs.RefLaws.{names-cell, refs-inside, refs-out, names-refs}
+use Rattle.layout.proofs.OffsetLaws.{names-says}
+use Rattle.arena.proofs.RefLaws.{refs-inside, refs-out, names-refs}
 use Rattle.arena.proofs.LocalLaws.{live-cell}
 use Rattle.arena.proofs.Clipped.{Clipped, columns-clipped}
 use Rattle.arena.proofs.Reach.{named-reached, live-reached, reached-live, Placed, root-placed, reached-has-count, reached-deep, reached-below}
@@ -120,7 +121,7 @@ local-cells z σ some free I =
           );
       counts =
           λ r n.
-          let nz : r ≡ 0 → ⊥ = λ e. omega (arith, names-cell z r n) in
+          let nz : r ≡ 0 → ⊥ = λ e. omega (arith, names-says z r n) in
           omega (arith, I .exact r nz, naming-occ z σ reached (I .no-root) (λ q k f. I .rest q k (idle q f)) r nz);
       not-reached = λ r n. (idle r, λ e. le-ltb 0 (σ .count r) (omega arith));
       free = free;

@@ -75,11 +75,6 @@ module _ (σ : State) where
   shown-some (leaf (x ∷ xs)) t r h e = omega (arith, h .0)
   shown-some (branch c ks) t r h e = omega (arith, h .0)
 
-  pub chain-live : (xs : List (Item ℕ)) (r : ℕ) → ShowsChain σ xs r → (r ≡ 0 → ⊥) → 0 < σ .count r
-  unfolding ShowsChain
-  chain-live [] r h nz = absurd (nz h)
-  chain-live (x ∷ xs) r h nz = h .1
-
   pub map-live : (m : Map ℕ) (r : ℕ) → ShowsMap σ m r → (r ≡ 0 → ⊥) → 0 < σ .count r
   unfolding ShowsMap
   map-live empty r h nz = absurd (nz h)

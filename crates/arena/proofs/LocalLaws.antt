@@ -124,14 +124,6 @@ module _ {z : Shape} {σ : State} {H : ℕ → ℕ} {free : ℕ → List ℕ} (I
   pub free-length : 0 < z .degree → (p : ℕ) → p < 2 → length (free p) ≡ cellsOf z p - σ .used p
   free-length d p l = omega (arith, used-and-free d p l)
 
-  pub free-branches : 0 < z .degree → length (free 0) ≡ z .branches - σ .used 0
-  unfolding cellsOf
-  free-branches d = free-length d 0 (omega arith)
-
-  pub free-entries : 0 < z .degree → length (free 1) ≡ z .entries - σ .used 1
-  unfolding cellsOf
-  free-entries d = free-length d 1 (omega arith)
-
 -- COUNTS OF CELLS. The free cells of a kind are fewer than its cells while one of it lives.
 sum-strict : (n : ℕ) (f g : ℕ → ℕ) (c : ℕ) → c < n → f c < g c → ((j : ℕ) → f j ≤ g j) → sumTo n f < sumTo n g
 unfolding sumTo
@@ -183,10 +175,6 @@ count-bound {z} {σ} r I d =
     (eq? r 0)
 
 -- so a count that is tested never overflows
-pub count-small : {z : Shape} {σ : State} {free : ℕ → List ℕ} (r : ℕ)
-    → Local z σ (λ x. 0) free → 0 < z .degree → σ .count r ≤ z .slots + z .branches * z .degree + z .entries
-count-small r I d = omega (arith, count-bound r I d)
-
 -- and where cells only go, no more words name a cell than before
 pub occ-mono : {z : Shape} {σ τ : State} {H : ℕ → ℕ} {free : ℕ → List ℕ} (r : ℕ)
     → (r ≡ 0 → ⊥) → Shrink 0 σ τ → SameSlots σ τ → Local z τ H free → occ z τ r ≤ occ z σ r

@@ -5,7 +5,7 @@ use mathlib.Core.Path.{_≡_, refl, sym, ap, _∙_}
 use mathlib.Core.Logic.{⊎-elim, _↔_}
 use mathlib.Core.Bool.{true, false, cond}
 use native.Mathlib.Omega.{arith}
-use borrow.Author.Tests.{eq-eqb, ne-eqb, lt-ltb, le-ltb, ltb-true}
+use borrow.Author.Tests.{eq-eqb, ne-eqb, lt-ltb, le-ltb}
 use lib.Dec.{eqb, ltb}
 use Rattle.cases.proofs.Cases.{split, eq?, lt?}
 use Rattle.counts.specs.Counts.{sumTo}
@@ -13,31 +13,11 @@ use native.Mathlib.Nat.{add-mul}
 use Rattle.counts.proofs.CountLaws.{sum-ext, sum-zero, sum-add}
 use Rattle.layout.specs.declared.Shape.{Shape}
 use Rattle.layout.specs.Layout.{reference, kindOf, cellOf, cellsOf, names}
+use Rattle.layout.proofs.OffsetLaws.{names-says, names-is, names-low, names-not}
+use Rattle.layout.proofs.ColumnLaws.{kids-branch, kids-entry}
 use Rattle.layout.specs.Columns.{kidsOf, refs}
 use Rattle.arena.specs.Sound.{top}
 use Rattle.arena.specs.Local.{cell, num}
-
--- NAMES
-pub names-cell : (z : Shape) (r : ℕ) → names z r ≡ true → (2 ≤ r) × (cellOf r < cellsOf z (kindOf r))
-unfolding names
-names-cell z r e =
-    ⊎-elim
-    (λ l. absurd (let y : false ≡ true = rw (lt-ltb r 2 l) at e in let n : _≡_ {A = ℕ} 0 1 = cc in omega arith))
-    (λ g. (g, ltb-true (cellOf r) (cellsOf z (kindOf r)) (rw (le-ltb r 2 g) at e)))
-    (lt? r 2)
-
-pub names-at : (z : Shape) (r : ℕ) → 2 ≤ r → cellOf r < cellsOf z (kindOf r) → names z r ≡ true
-unfolding names
-names-at z r g l = rw (le-ltb r 2 g, lt-ltb (cellOf r) (cellsOf z (kindOf r)) l)
-
-names-low : (z : Shape) (r : ℕ) → r < 2 → names z r ≡ false
-unfolding names
-names-low z r l = rw (lt-ltb r 2 l)
-
-pub names-not : (z : Shape) (r : ℕ) → cellsOf z (kindOf r) ≤ cellOf r → names z r ≡ false
-unfolding names
-names-not z r g =
-    ⊎-elim (λ l. names-low z r l) (λ u. rw (le-ltb r 2 u, le-ltb (cellOf r) (cellsOf z (kindOf r)) g)) (lt? r 2)
 
 cells-fit : (z : Shape) (k : ℕ) → cellsOf z k ≤ z .branches + z .entries
 unfolding cellsOf
@@ -52,17 +32,9 @@ pub refs-out : (z : Shape) (r : ℕ) → names z r ≡ false → refs z r ≡ 0
 unfolding refs
 refs-out z r e = rw e
 
-refs-in : (z : Shape) (r k : ℕ) → names z r ≡ true → kindOf r ≡ k → refs z r ≡ kidsOf z k
+refs-named-kind : (z : Shape) (r k : ℕ) → names z r ≡ true → kindOf r ≡ k → refs z r ≡ kidsOf z k
 unfolding refs
-refs-in z r k n e = rw (n, e)
-
-kids-branch : (z : Shape) → kidsOf z 0 ≡ z .degree
-unfolding kidsOf
-kids-branch z = refl
-
-kids-entry : (z : Shape) → kidsOf z 1 ≡ 1
-unfolding kidsOf
-kids-entry z = refl
+refs-named-kind z r k n e = rw (n, e)
 
 kids-some : (z : Shape) → 0 < z .degree → (k : ℕ) → 0 < kidsOf z k
 unfolding kidsOf
@@ -73,16 +45,16 @@ unfolding refs names
 refs-none z = refl
 
 pub refs-inside : (z : Shape) (r : ℕ) → 0 < refs z r → r < top z
-refs-inside z r l = omega (arith, names-cell z r (refs-some z r l), cells-fit z (kindOf r))
+refs-inside z r l = omega (arith, names-says z r (refs-some z r l), cells-fit z (kindOf r))
 
 pub refs-branch : (z : Shape) (r : ℕ) → 0 < refs z r → kindOf r ≡ 0 → refs z r ≡ z .degree
-refs-branch z r l e = refs-in z r 0 (refs-some z r l) e ∙ kids-branch z
+refs-branch z r l e = refs-named-kind z r 0 (refs-some z r l) e ∙ kids-branch z 0 refl
 
 pub refs-entry : (z : Shape) (r : ℕ) → 0 < refs z r → kindOf r ≡ 1 → refs z r ≡ 1
-refs-entry z r l e = refs-in z r 1 (refs-some z r l) e ∙ kids-entry z
+refs-entry z r l e = refs-named-kind z r 1 (refs-some z r l) e ∙ kids-entry z 1 (λ y. omega arith)
 
 refs-named : (z : Shape) → 0 < z .degree → (r : ℕ) → names z r ≡ true → 0 < refs z r
-refs-named z d r n = omega (arith, refs-in z r (kindOf r) n refl, kids-some z d (kindOf r))
+refs-named z d r n = omega (arith, refs-named-kind z r (kindOf r) n refl, kids-some z d (kindOf r))
 
 pub names-refs : (z : Shape) → 0 < z .degree → (r : ℕ) → (names z r ≡ true) ↔ (0 < refs z r)
 names-refs z d r = (refs-named z d r, refs-some z r)
@@ -91,13 +63,13 @@ names-refs z d r = (refs-named z d r, refs-some z r)
 pub names-of : (z : Shape) (k c : ℕ) → k < 2 → c < cellsOf z k → names z (reference k c) ≡ true
 names-of z k c u l =
     let e : kindOf (reference k c) ≡ k = omega arith in
-    names-at z (reference k c) (omega arith) (omega (arith, ap (cellsOf z) e))
+    names-is z (reference k c) (record { low = omega arith; number = omega (arith, ap (cellsOf z) e) })
 
 pub refs-of : (z : Shape) (k c : ℕ) → k < 2 → c < cellsOf z k → 0 < z .degree → 0 < refs z (reference k c)
 refs-of z k c u l d = refs-named z d (reference k c) (names-of z k c u l)
 
 pub ref-cell : (z : Shape) (r : ℕ) → 0 < refs z r → (cellOf r < cellsOf z (kindOf r)) × (r ≡ reference (kindOf r) (cellOf r))
-ref-cell z r l = let w = names-cell z r (refs-some z r l) in (w .1, omega (arith, w .0))
+ref-cell z r l = let w = names-says z r (refs-some z r l) in (w .number, omega (arith, w .low))
 
 -- HOW MANY CELLS THERE ARE. 1 at the numbers from 1 to n
 unfoldable upTo : ℕ → ℕ → ℕ
@@ -159,7 +131,7 @@ cell-at z d p i r e h =
     (λ y. cell-no z p r (refs-out z r (names-low z r (omega arith))) ∙ sym (ap (upTo n) y ∙ up-zero n))
     (λ nz.
     ⊎-elim
-    (λ l. cell-yes z p r (refs-named z d r (names-at z r (omega arith) (omega arith))) e ∙ sym (up-in n i nz l))
+    (λ l. cell-yes z p r (refs-named z d r (names-is z r (record { low = omega arith; number = omega arith }))) e ∙ sym (up-in n i nz l))
     (λ g. cell-no z p r (refs-out z r (names-not z r (omega arith))) ∙ sym (up-out n i g))
     (lt? i (suc n)))
     (eq? i 0)

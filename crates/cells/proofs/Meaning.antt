@@ -2,7 +2,7 @@
 -- local form, with its frame.
 use Prim.Native.Nat.{ℕ, zero, suc, _+_, _-_, _*_, _^_, _≤_, _<_}
 use mathlib.Core.Path.{_≡_, refl, ap, _∙_}
-use mathlib.Core.Bool.{true, false}
+use mathlib.Core.Bool.{true}
 use mathlib.Core.Logic.{⊎-elim}
 use mathlib.Core.List.{[], List, _∷_}
 use native.Mathlib.Nat.{mul-le-mul}
@@ -16,6 +16,7 @@ use Rattle.layout.specs.declared.Shape.{Shape}
 use Rattle.layout.specs.Layout.{kindOf, names, Lent}
 use Rattle.layout.specs.Columns.{State, byKind, refs, columns, setSlotWords, setSlot}
 use Rattle.layout.proofs.SizeLaws.{row-is-right, small}
+use Rattle.layout.proofs.OffsetLaws.{names-low}
 use Rattle.layout.proofs.ColumnLaws.{slot-store}
 use Rattle.arena.specs.Local.{Below, Local, Grow, Shrink, SameSlots}
 use Rattle.arena.specs.Steps.{takeState, fillState, onChain}
@@ -76,10 +77,6 @@ count-few {z} {σ = σ} {H = H} l I r few =
     omega (arith, w .few-slots, w .few-entries)
 
 -- SHARE AND UNSHARE
-names-none : (z : Shape) → names z 0 ≡ false
-unfolding names
-names-none z = refl
-
 pub share-means : {z : Shape} {a : List ℕ} {H : ℕ → ℕ} {free : ℕ → List ℕ} (r : ℕ)
     → Lent z a → ((r ≡ 0 → ⊥) → 0 < columns z a .count r) → H r ≤ 1000000 → Local z (columns z a) H free
     → Grown z (columns z a) (columns z (shareWords z a r)) (λ x. ind x r + H x) free
@@ -87,7 +84,7 @@ share-means {z} {a} r l live few I =
     let σ = columns z a in
     ⊎-elim
     (λ e.
-    rw (share-none z a r (ap (names z) e ∙ names-none z))
+    rw (share-none z a r (names-low z r (omega arith)))
     (record { local = share-nothing r e I; grow = grow-refl σ; slots = slots-refl σ }))
     (λ nz.
     rw (share-columns z a r l (live-named I r (live nz)) (count-few l I r few))

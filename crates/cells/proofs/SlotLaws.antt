@@ -1,13 +1,13 @@
 -- The lowest free slot is found exactly: below it every slot is held, and where none is found all are.
 use Prim.Native.Nat.{ℕ, zero, suc, _+_, _-_, _≤_, _<_}
 use mathlib.Core.Path.{_≡_, refl, sym, ap, _∙_}
-use mathlib.Core.Bool.{true, false}
+use mathlib.Core.Bool.{true}
 use mathlib.Core.List.{List}
 use mathlib.Core.Logic.{⊎-elim}
 use native.Mathlib.Omega.{arith}
 use native.Mathlib.Numerals.{add-one}
 use lib.Dec.{eqb, ltb}
-use borrow.Author.Tests.{eq-eqb, ne-eqb, lt-ltb, le-ltb, eqb-true, eqb-false, ltb-true}
+use borrow.Author.Tests.{eq-eqb, ne-eqb, lt-ltb, eqb-true, eqb-false, ltb-true}
 use Rattle.cases.proofs.Cases.{split, eq?, both}
 use Rattle.layout.specs.declared.Shape.{Shape}
 use Rattle.layout.specs.Columns.{slotWord}
@@ -23,14 +23,6 @@ module _ (z : Shape) (a : List ℕ) (s : ℕ) where
   pub held-is : s < z .slots → slotWord z a s 0 ≡ 1 → heldSlot z a s ≡ true
   unfolding heldSlot
   held-is l e = rw (lt-ltb s (z .slots) l, eq-eqb (slotWord z a s 0) 1 e)
-
-  pub held-not : s < z .slots → (slotWord z a s 0 ≡ 1 → ⊥) → heldSlot z a s ≡ false
-  unfolding heldSlot
-  held-not l e = rw (lt-ltb s (z .slots) l, ne-eqb (slotWord z a s 0) 1 e)
-
-  pub held-past : z .slots ≤ s → heldSlot z a s ≡ false
-  unfolding heldSlot
-  held-past l = rw (le-ltb s (z .slots) l)
 
 -- FREE, by what was seen
 module _ (z : Shape) (a : List ℕ) where

@@ -71,9 +71,6 @@ cnt-upd n f i v r l =
 pub cnt-le : (n : ℕ) (f : ℕ → ℕ) (r : ℕ) → times n f r ≤ n
 cnt-le n f r = omega (arith, sum-le n (λ j. ind r (f j)) 1 (λ j. ind-le r (f j)))
 
-pub cnt-none : (n : ℕ) (f : ℕ → ℕ) (r : ℕ) → times n f r ≡ 0 → (i : ℕ) → i < n → f i ≡ r → ⊥
-cnt-none n f r z i l e = omega (arith, sum-at n (λ j. ind r (f j)) i l, ind-same r (f i) e)
-
 pub cnt-some : (n : ℕ) (f : ℕ → ℕ) (r i : ℕ) → i < n → f i ≡ r → 1 ≤ times n f r
 cnt-some n f r i l e = omega (arith, sum-at n (λ j. ind r (f j)) i l, ind-same r (f i) e)
 

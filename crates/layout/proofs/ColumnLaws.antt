@@ -25,11 +25,11 @@ unfolding refs
 refs-in z r k l =
     split (names z r) (λ e. (e, rw e at l)) (λ e. absurd (let n : k < 0 = rw e at l in omega arith))
 
-kids-branch : (z : Shape) (k : ℕ) → k ≡ 0 → kidsOf z k ≡ z .degree
+pub kids-branch : (z : Shape) (k : ℕ) → k ≡ 0 → kidsOf z k ≡ z .degree
 unfolding kidsOf
 kids-branch z k e = rw (eq-eqb k 0 e)
 
-kids-entry : (z : Shape) (k : ℕ) → (k ≡ 0 → ⊥) → kidsOf z k ≡ 1
+pub kids-entry : (z : Shape) (k : ℕ) → (k ≡ 0 → ⊥) → kidsOf z k ≡ 1
 unfolding kidsOf
 kids-entry z k ne = rw (ne-eqb k 0 ne)
 

@@ -84,9 +84,6 @@ fitting g b n s bits depths last e f =
 pub fits-says : (g b n s : ℕ) (z : Shape) → shapeOf g b n s ≡ Fits z → Fitting g b n s z
 fits-says g b n s z e = by (rowOf g) refl
   where
-    bad : {y : Shaped} → shapeOf g b n s ≡ y → y ≡ Fits z → Fits z ≡ y
-    bad p q = sym q
-
     by : (o : DegreeRow) → rowOf g ≡ o → Fitting g b n s z
     by (Found bits depths last) r =
         split (sizesFit b n s)

@@ -9,7 +9,7 @@ use native.Mathlib.Nat.{mul-le-mul-right, suc-mul}
 use native.Mathlib.Omega.{arith}
 use lib.Dec.{ltb}
 use lib.ListN.{length}
-use borrow.Author.Tests.{eq-eqb, ne-eqb, lt-ltb, le-ltb, ltb-true}
+use borrow.Author.Tests.{eq-eqb, ne-eqb, lt-ltb, le-ltb, ltb-true, ltb-false}
 use Rattle.cases.proofs.Cases.{eq?, lt?, both}
 use Rattle.layout.specs.declared.Shape.{Shape}
 use Rattle.layout.specs.Layout.{kindOf, cellOf, widthOf, cellsOf, headerWords, atBranches, atEntries, total, atCells, slotAt, wordAt, names, has, Allowed, Lent}
@@ -56,18 +56,20 @@ pub names-says : (z : Shape) (r : ℕ) → names z r ≡ true → Cell z r
 unfolding names
 names-says z r e =
     let w = not-and (ltb r 2) _ e in
-    record {
-      low =
-          ⊎-elim
-          (λ l. absurd (let n : _≡_ {A = ℕ} 0 1 = cc (lt-ltb r 2 l) in omega arith))
-          (λ l. l)
-          (lt? r 2);
-      number = ltb-true _ _ (w .1);
-    }
+    record { low = ltb-false _ _ (w .0); number = ltb-true _ _ (w .1) }
 
 pub names-is : (z : Shape) (r : ℕ) → Cell z r → names z r ≡ true
 unfolding names
 names-is z r k = rw (le-ltb r 2 (k .low), lt-ltb (cellOf r) (cellsOf z (kindOf r)) (k .number))
+
+pub names-low : (z : Shape) (r : ℕ) → r < 2 → names z r ≡ false
+unfolding names
+names-low z r l = rw (lt-ltb r 2 l)
+
+pub names-not : (z : Shape) (r : ℕ) → cellsOf z (kindOf r) ≤ cellOf r → names z r ≡ false
+unfolding names
+names-not z r g =
+    ⊎-elim (λ l. names-low z r l) (λ u. rw (le-ltb r 2 u, le-ltb (cellOf r) (cellsOf z (kindOf r)) g)) (lt? r 2)
 
 pub record Place (z : Shape) (r p : ℕ) : Type 0 where
   pub cell : Cell z r

@@ -14,9 +14,9 @@ use Rattle.trie.specs.Built.{Built, nothing}
 use Rattle.layout.specs.declared.Shape.{Shape}
 use Rattle.layout.specs.declared.Heading.{Heading}
 use Rattle.layout.specs.declared.Heading.the-variants.{Right, Wrong}
-use Rattle.layout.specs.Layout.{names}
 use Rattle.layout.specs.Header.{Header, headerOf}
 use Rattle.layout.specs.Columns.{State, slotWord, columns, setSlotWords}
+use Rattle.layout.proofs.OffsetLaws.{names-low}
 use Rattle.layout.proofs.HeaderLaws.{header-says, header-once}
 use Rattle.arena.specs.Shows.{ShowsMap, Edition}
 use Rattle.arena.specs.Sound.{FreeSlot, HeldSlot, Sound}
@@ -98,10 +98,6 @@ empty-built : (seg : ℕ → ℕ → ℕ) (d : ℕ) → Built seg d (forget {X =
 unfolding rename
 empty-built seg d = nothing
 
-names-none : (z : Shape) → names z 0 ≡ false
-unfolding names
-names-none z = refl
-
 new-means : (a : List ℕ) (z : Shape) → Header a z → Means a z (λ e m. m ≡ empty) (newEditionIn z a)
 unfolding newTo
 new-means a z h = by (freeSlot z a) refl
@@ -111,7 +107,7 @@ new-means a z h = by (freeSlot z a) refl
     by (At s) e =
         let w = free-slot-lowest z a s e in
         let same : setSlotWords z (shareWords z a 0) s 1 0 0 ≡ newTo z a s
-        = ap (λ (x : List ℕ). setSlotWords z x s 1 0 0) (share-none z a 0 (names-none z)) in
+        = ap (λ (x : List ℕ). setSlotWords z x s 1 0 0) (share-none z a 0 (names-low z 0 (omega arith))) in
         let sh : ShowsMap (columns z a) empty 0 = unfold ShowsMap in refl in
         let sz : 0 ≡ size {X = ℕ} empty = unfold size listing in refl in
         rw (new-at z a s e)
