@@ -6,7 +6,7 @@ ghost use mathlib.Core.Path.{_≡_};
 ghost use mathlib.Core.Bool.{true};
 ghost use Prim.Native.Nat.{_<_};
 ghost use Rattle.layout.specs.Layout.{names, Lent};
-ghost use Rattle.cells.specs.Mirrors.{takeable, takenOf, takeWords, blankWords, giveBackWords};
+ghost use Rattle.cells.specs.Mirrors.{takeable, takenOf, takeCell, takeWords, blankWords, giveBackWords};
 
 // Whether the first of a free chain is what it should be. On a sound arena only the end of the chain is refused; on any
 // other this keeps a cell that is in use from being written over.
@@ -30,8 +30,21 @@ fn may_take(a: &[u64], z: Shape, kind: u64, r: u64) -> bool
     }
 }
 
-// The first free cell of a kind leaves its chain, with a count of 1 and all else 0. Answers its reference, or 0 where there
-// is none to take.
+// A cell that may be taken leaves its chain, with a count of 1 and all else 0.
+fn take_cell(a: &mut [u64], z: Shape, kind: u64, r: u64)
+    requires { ⌜ Lent z (now a) ⌝ }
+    requires { ⌜ (kind < 2) × (takeable z (now a) kind r ≡ true) ⌝ }
+    ensures { λ _. ⌜ now (a .exit) ≡ takeCell z (now (a .entry)) kind r ⌝ }
+{
+    let next = words::word(&*a, z, r, words::MARK);
+    let used = words::kind_word(&*a, z, words::IN_USE, kind);
+    words::set_word(&mut *a, z, r, words::COUNT, 1);
+    words::set_word(&mut *a, z, r, words::MARK, 0);
+    words::set_kind_word(&mut *a, z, words::FIRST_FREE, kind, next);
+    words::set_kind_word(&mut *a, z, words::IN_USE, kind, used + 1);
+}
+
+// The first free cell of a kind is taken. Answers its reference, or 0 where there is none to take.
 pub fn take(a: &mut [u64], z: Shape, kind: u64) -> u64
     requires { ⌜ Lent z (now a) ⌝ }
     requires { ⌜ kind < 2 ⌝ }
@@ -40,12 +53,7 @@ pub fn take(a: &mut [u64], z: Shape, kind: u64) -> u64
 {
     let r = words::kind_word(&*a, z, words::FIRST_FREE, kind);
     if may_take(&*a, z, kind, r) {
-        let next = words::word(&*a, z, r, words::MARK);
-        let used = words::kind_word(&*a, z, words::IN_USE, kind);
-        words::set_word(&mut *a, z, r, words::COUNT, 1);
-        words::set_word(&mut *a, z, r, words::MARK, 0);
-        words::set_kind_word(&mut *a, z, words::FIRST_FREE, kind, next);
-        words::set_kind_word(&mut *a, z, words::IN_USE, kind, used + 1);
+        take_cell(&mut *a, z, kind, r);
         r
     } else {
         0
