@@ -3,3 +3,4 @@ pub mod PutLaws
 pub mod FormatLaws
 pub mod EditionLaws
 pub mod ReadLaws
+pub mod RefusalLaws
