@@ -26,7 +26,8 @@ pub record FreeSlot (σ : State) (s : ℕ) : Type 0 where
   pub no-root : σ .root s ≡ 0
   pub no-size : σ .size s ≡ 0
 
--- "every held root shows a trie that the rules above can build, with its size"
+-- "every held root shows a trie that the rules above can build, with its size". How its cells are laid out, that "a branch's depth
+-- word is its place" and that "a cell's chain length is one more than that of its next, or 1" is in `Shows`.
 pub record HeldSlot (z : Shape) (σ : State) (s : ℕ) : Type 0 where
   pub map : Map ℕ
   pub edition : Edition z σ s map

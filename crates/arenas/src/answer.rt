@@ -1,7 +1,39 @@
-//! Answers as a person reads them: what was done, or the number of the refusal.
+//! Document 01's number for an answer: 0 where the call is done, and else the number of the refusal.
 use shelf::Counted;
+use shelf::Formatted;
 use shelf::InUse;
 use shelf::Made;
+
+pub fn of_format(answer: Formatted) -> u64 {
+    match answer {
+        Formatted::Done => 0,
+        Formatted::Refused(why) => why.number(),
+    }
+}
+
+pub fn of_made(answer: Made) -> u64 {
+    match answer {
+        Made::Edition(_) => 0,
+        Made::Refused(why) => why.number(),
+    }
+}
+
+pub fn of_counted(answer: Counted) -> u64 {
+    match answer {
+        Counted::Entries(_) => 0,
+        Counted::Refused(why) => why.number(),
+    }
+}
+
+pub fn of_use(answer: InUse) -> u64 {
+    match answer {
+        InUse::Cells {
+            branches: _,
+            entries: _,
+        } => 0,
+        InUse::Refused(why) => why.number(),
+    }
+}
 
 // One more, as far as numbers go.
 pub fn count(n: u64) -> u64 {

@@ -4,7 +4,7 @@ use crate::answer;
 
 // Prints a degree that is accepted, and counts one that is refused with 1. Any other answer is printed with its degree.
 fn format(a: &mut [u64], degree: u64, refused: u64) -> u64 {
-    let number = shelf::format(a, degree, 1, 1, 1).number();
+    let number = answer::of_format(shelf::format(a, degree, 1, 1, 1));
     if number == 1 {
         return answer::count(refused);
     }
@@ -41,7 +41,7 @@ fn powers(a: &mut [u64]) {
 
 fn largest(a: &mut [u64]) {
     let answer = shelf::format(a, u64::MAX, 1, 1, 1);
-    print::decimal(b"  2^64 - 1: answers ", answer.number());
+    print::decimal(b"  2^64 - 1: answers ", answer::of_format(answer));
     print::say(b"\n");
 }
 

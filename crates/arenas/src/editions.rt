@@ -29,7 +29,7 @@ fn at_degree(a: &mut [u64], degree: u64)
 {
     print::decimal(b"  degree ", degree);
     let answer = shelf::format(a, degree, 3, 5, 4);
-    print::decimal(b": format answers ", answer.number());
+    print::decimal(b": format answers ", answer::of_format(answer));
     refusals::no_such_edition(a, 0);
     print::say(b"\n");
     take_slots(a);

@@ -6,16 +6,16 @@ ghost use Prim.Native.Nat.{_≤_, _<_};
 ghost use lib.ListN.{length};
 
 fn no_slot(a: &mut [u64]) {
-    let made = shelf::new_edition(a).number();
-    let shared = shelf::share(a, 0).number();
+    let made = answer::of_made(shelf::new_edition(a));
+    let shared = answer::of_made(shelf::share(a, 0));
     print::decimal(b"    all held: new answers ", made);
     print::decimal(b", share of 0 answers ", shared);
 }
 
 // The edition is of a slot that is not held, or that is not there.
 pub fn no_such_edition(a: &mut [u64], edition: u64) {
-    let shared = shelf::share(a, edition).number();
-    let sized = shelf::size(a, edition).number();
+    let shared = answer::of_made(shelf::share(a, edition));
+    let sized = answer::of_counted(shelf::size(a, edition));
     print::decimal(b", share of ", edition);
     print::decimal(b" answers ", shared);
     print::decimal(b", size of ", edition);
@@ -29,10 +29,10 @@ fn count_4(n: u64, number: u64) -> u64 {
 // The four calls on a damaged arena. Three of them have another fault too, no free slot or no such edition, but 4 comes
 // first.
 fn damaged(a: &mut [u64], fours: u64) -> u64 {
-    let made = count_4(fours, shelf::new_edition(a).number());
-    let shared = count_4(made, shelf::share(a, 4).number());
-    let sized = count_4(shared, shelf::size(a, 4).number());
-    count_4(sized, shelf::in_use(a).number())
+    let made = count_4(fours, answer::of_made(shelf::new_edition(a)));
+    let shared = count_4(made, answer::of_made(shelf::share(a, 4)));
+    let sized = count_4(shared, answer::of_counted(shelf::size(a, 4)));
+    count_4(sized, answer::of_use(shelf::in_use(a)))
 }
 
 // Sums wrap, so that the largest number lowers a word by one.

@@ -1,4 +1,5 @@
 //! The edges of the three sizes, and which of several faults format names.
+use crate::answer;
 
 struct Sizes {
     branches: u64,
@@ -37,7 +38,7 @@ fn format(a: &mut [u64], tried: Tried, n: u64) {
     let s = sizes_for(tried, n);
     let answer = shelf::format(a, 16, s.branches, s.entries, s.slots);
     print::decimal(b" ", n);
-    print::decimal(b" answers ", answer.number());
+    print::decimal(b" answers ", answer::of_format(answer));
 }
 
 // None, one, as many as may be, and one more.
@@ -56,7 +57,7 @@ fn edges(a: &mut [u64], tried: Tried, most: u64, past: u64) {
 fn first_fault(name: &[u8], degree: u64, size: u64) {
     let mut a = [0u64; 1];
     let answer = shelf::format(&mut a[..0], degree, size, size, size);
-    print::decimal(name, answer.number());
+    print::decimal(name, answer::of_format(answer));
     print::say(b"\n");
 }
 

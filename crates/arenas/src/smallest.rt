@@ -1,4 +1,5 @@
 //! The smallest arena at each degree: one branch cell, one entry cell and one slot.
+use crate::answer;
 use crate::lent;
 ghost use Prim.Native.Nat.{_≤_};
 ghost use lib.ListN.{length};
@@ -9,7 +10,7 @@ const MARK: u64 = 7;
 fn format_all(a: &mut [u64], degree: u64) {
     print::decimal(b" ", a.len() as u64);
     let answer = shelf::format(a, degree, 1, 1, 1);
-    print::decimal(b" words answer ", answer.number());
+    print::decimal(b" words answer ", answer::of_format(answer));
 }
 
 fn format_first(a: &mut [u64], n: usize, degree: u64)

@@ -1,15 +1,16 @@
-//! Where the words of an arena lie: header, slots, branch cells and entry cells. Document 01's section "The arena".
+//! Where the words of an arena lie, the layer of the shelf in which words become meaning: header, slots, branch cells
+//! and entry cells. Document 01's section "The arena".
 //!
-//! This is the layer of the shelf in which words become meaning, and the only one that computes an offset. It stands
-//! on `segments`, whose table says which degrees there are. The crates above read and write a cell's word by the
-//! reference that names the cell and by its place in the cell, and a slot's word by slot and place.
+//! No other layer computes an offset. It stands on `segments`, whose table says which degrees there are. The crates
+//! above read and write a cell's word by the reference that names the cell and by its place in the cell, and a slot's
+//! word by slot and place.
 //!
 //! A caller may rely on this:
 //! - `header::read` decides, on any words, whether words 0 to 7 are right and the slice is long enough;
 //! - `header::shape` gives the shape of an arena, or says what is wrong with a degree and three sizes;
 //! - `format::lay_out` writes every word of a formatted arena, and none behind it;
 //! - different words have different offsets, all inside the slice (proofs/OffsetLaws.antt), and a store changes one
-//!   column at one row (proofs/StoreLaws.antt).
+//!   column at one row (proofs/ColumnLaws.antt).
 
 pub mod format;
 pub mod header;

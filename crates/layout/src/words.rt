@@ -41,7 +41,7 @@ pub const ROOT: u64 = 1;
 
 pub const SIZE: u64 = 2;
 
-// What a branch has, or an entry: a choice between two numbers and no jump.
+// What a branch has, or an entry.
 fn pick(kind: u64, branch: u64, entry: u64) -> u64
     ensures { λ r. ⌜ r ≡ cond (eqb kind 0) branch entry ⌝ }
 {

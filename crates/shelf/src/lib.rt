@@ -1,10 +1,10 @@
-//! The shelf: editions of a persistent hash trie in a lent arena of 64-bit words. This is the public surface; every crate
-//! below is a layer of it.
+//! The shelf: editions of a persistent hash trie in a lent arena of 64-bit words. This is the public surface; every
+//! crate below is a layer of it.
 //!
-//! A call takes the arena as a slice and has no precondition: on any words and numbers it ends, stays inside the slice, and
-//! refuses wrong input with document 01's number for it, with nothing written. What each call answers, and every word that
-//! it leaves, is one definition per call in specs/Calls.antt; what that means on a sound arena is in its contract
-//! (specs/Contracts.antt).
+//! A call takes the arena as a slice and has no precondition: on any words and numbers it ends, stays inside the slice,
+//! and refuses wrong input with document 01's number for it, with nothing written. What each call answers, and every
+//! word that it leaves, is one definition per call in specs/Calls.antt; what that means on a sound arena is in its
+//! contract (specs/Contracts.antt).
 
 use cells::Slot;
 use cells::shares;
@@ -17,7 +17,7 @@ use layout::words;
 ghost use mathlib.Core.Path.{_≡_};
 ghost use Prim.Native.Nat.{_<_};
 ghost use Rattle.layout.specs.Layout.{Lent};
-ghost use Rattle.shelf.specs.Answers.{numberOf, formatted, made, counted, inUse};
+ghost use Rattle.shelf.specs.Answers.{numberOf, made, counted};
 ghost use Rattle.shelf.specs.Calls.{leaves, newEditionIn, shareHeld, shareIn, sizeIn};
 ghost use Rattle.shelf.specs.Contracts.{Formats, MakesNew, Shares, Sizes, Uses};
 
@@ -64,32 +64,10 @@ pub enum Formatted {
     Refused(Refusal),
 }
 
-impl Formatted {
-    pub fn number(self) -> u64
-        ensures { λ r. ⌜ r ≡ formatted self .number ⌝ }
-    {
-        match self {
-            Formatted::Done => 0,
-            Formatted::Refused(why) => why.number(),
-        }
-    }
-}
-
 // A call that puts an edition in a slot answers the slot's number.
 pub enum Made {
     Edition(u64),
     Refused(Refusal),
-}
-
-impl Made {
-    pub fn number(self) -> u64
-        ensures { λ r. ⌜ r ≡ made self .number ⌝ }
-    {
-        match self {
-            Made::Edition(_) => 0,
-            Made::Refused(why) => why.number(),
-        }
-    }
 }
 
 pub enum Counted {
@@ -97,34 +75,9 @@ pub enum Counted {
     Refused(Refusal),
 }
 
-impl Counted {
-    pub fn number(self) -> u64
-        ensures { λ r. ⌜ r ≡ counted self .number ⌝ }
-    {
-        match self {
-            Counted::Entries(_) => 0,
-            Counted::Refused(why) => why.number(),
-        }
-    }
-}
-
 pub enum InUse {
     Cells { branches: u64, entries: u64 },
     Refused(Refusal),
-}
-
-impl InUse {
-    pub fn number(self) -> u64
-        ensures { λ r. ⌜ r ≡ inUse self .number ⌝ }
-    {
-        match self {
-            InUse::Cells {
-                branches: _,
-                entries: _,
-            } => 0,
-            InUse::Refused(why) => why.number(),
-        }
-    }
 }
 
 // Makes an arena of the words: all cells free, no edition held. Words beyond the total stay as they are.
