@@ -15,25 +15,22 @@ fn format(a: &mut [u64], degree: u64, refused: u64) -> u64 {
     refused
 }
 
-fn up_to_300(a: &mut [u64]) {
-    print::say(b"  0 to 300: accepted");
-    let mut refused = 0;
-    let mut degree = 0;
-    while degree <= 300 {
-        refused = format(a, degree, refused);
-        degree += 1;
+// The degree of a turn: the turn's number itself, or 2 to its power.
+fn degree_of(turn: u64, power: bool) -> u64 {
+    if power {
+        if turn < 64 { 1u64 << turn } else { 0 }
+    } else {
+        turn
     }
-    print::decimal(b"; refused with 1: ", refused);
-    print::say(b"\n");
 }
 
-fn powers(a: &mut [u64]) {
-    print::say(b"  1 to 2^63, the powers of two: accepted");
+fn try_all(a: &mut [u64], label: &[u8], turns: u64, power: bool) {
+    print::say(label);
     let mut refused = 0;
-    let mut bits = 0u64;
-    while bits < 64 {
-        refused = format(a, 1u64 << bits, refused);
-        bits += 1;
+    let mut turn = 0;
+    while turn < turns {
+        refused = format(a, degree_of(turn, power), refused);
+        turn += 1;
     }
     print::decimal(b"; refused with 1: ", refused);
     print::say(b"\n");
@@ -48,7 +45,12 @@ fn largest(a: &mut [u64]) {
 pub fn show() {
     print::say(b"Degrees (all sizes 1, 8192 words)\n");
     let mut a = [0u64; 8192];
-    up_to_300(&mut a);
-    powers(&mut a);
+    try_all(&mut a, b"  0 to 300: accepted", 301, false);
+    try_all(
+        &mut a,
+        b"  1 to 2^63, the powers of two: accepted",
+        64,
+        true,
+    );
     largest(&mut a);
 }

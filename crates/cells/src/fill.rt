@@ -60,7 +60,8 @@ pub fn take_out(a: &mut [u64], z: Shape, r: u64, k: u64) -> u64
     ensures { λ v. ⌜ v ≡ columns z (now (a .entry)) .kid r k ⌝ }
     ensures { λ _. ⌜ now (a .exit) ≡ takeOutWords z (now (a .entry)) r k ⌝ }
 {
-    let place = 3 - r % 2 + k;
+    // An entry's next stands one place before where a branch's children begin.
+    let place = words::CHILDREN - r % 2 + k;
     let v = words::word(&*a, z, r, place);
     words::set_word(&mut *a, z, r, place, 0);
     v

@@ -1,21 +1,17 @@
--- `arenas::degrees::powers` is safe and ends: the shift rises with each turn and stays at most 64, and the words stay
--- as many as they were.
+-- `arenas::degrees::try_all` is safe and ends: the turns rise to their number, and the words stay as many as they were.
 -- Assumes nothing.
 use mathlib.Core.Path.{_≡_}
 use Prim.Native.Nat.{_-_, _≤_}
 use lib.ListN.{length}
 use borrow.Author.Needs.{needs}
-use Rattle.arenas.proofs.degrees.powers.Statement.{statement}
-use Rattle.arenas.proofs.degrees.powers.Tie as tie
+use Rattle.arenas.proofs.degrees.try_all.Statement.{statement}
+use Rattle.arenas.proofs.degrees.try_all.Tie as tie
 
 abbrev Inv-loop : tie.InvT-loop
-Inv-loop a₀ refused₀ bits₀ t5 t6 a refused bits = (bits ≤ 64) × (length a ≡ length a₀)
+Inv-loop a₀ label turns power refused₀ turn₀ t7 t8 a refused turn = (turn ≤ turns) × (length a ≡ length a₀)
 
 abbrev μ-loop : tie.MeasureT-loop
-μ-loop a₀ refused₀ bits₀ t5 t6 a refused bits = 64 - bits
-
-slice-aggregate-say : tie.Need-slice-aggregate-say Inv-loop μ-loop
-slice-aggregate-say c = search needs
+μ-loop a₀ label turns power refused₀ turn₀ t7 t8 a refused turn = turns - turn
 
 say-requires : tie.Need-say-requires Inv-loop μ-loop
 say-requires c κs = search needs
@@ -23,14 +19,14 @@ say-requires c κs = search needs
 loop-holds : tie.Need-loop-holds Inv-loop μ-loop
 loop-holds c = search needs
 
-shl-format : tie.Need-shl-format Inv-loop μ-loop
-shl-format c = search needs
+degree-of-requires : tie.Need-degree-of-requires Inv-loop μ-loop
+degree-of-requires c κs = search needs
 
 format-requires : tie.Need-format-requires Inv-loop μ-loop
 format-requires c κs = search needs
 
-add-bits : tie.Need-add-bits Inv-loop μ-loop
-add-bits c = search needs
+add-turn : tie.Need-add-turn Inv-loop μ-loop
+add-turn c = search needs
 
 loop-less : tie.Need-loop-less Inv-loop μ-loop
 loop-less c = search needs
@@ -44,8 +40,8 @@ slice-aggregate-decimal c = search needs
 decimal-requires : tie.Need-decimal-requires Inv-loop μ-loop
 decimal-requires c κs = search needs
 
-slice-aggregate-say-2 : tie.Need-slice-aggregate-say-2 Inv-loop μ-loop
-slice-aggregate-say-2 c = search needs
+slice-aggregate-say : tie.Need-slice-aggregate-say Inv-loop μ-loop
+slice-aggregate-say c = search needs
 
 say-requires-2 : tie.Need-say-requires-2 Inv-loop μ-loop
 say-requires-2 c κs = search needs
@@ -56,23 +52,22 @@ same-length c = search needs
 returns : tie.Need-returns Inv-loop μ-loop
 returns c = search needs
 
-pub powers-spec : {M : Type 1} → statement M
-powers-spec =
+pub try-all-spec : {M : Type 1} → statement M
+try-all-spec =
     tie.close
     (tie.spec
     Inv-loop
     μ-loop
-    slice-aggregate-say
     say-requires
     loop-holds
-    shl-format
+    degree-of-requires
     format-requires
-    add-bits
+    add-turn
     loop-less
     loop-again
     slice-aggregate-decimal
     decimal-requires
-    slice-aggregate-say-2
+    slice-aggregate-say
     say-requires-2
     same-length
     returns)
