@@ -8,3 +8,4 @@ pub mod Reach
 pub mod Equivalent
 pub mod Formatted
 pub mod BlankArena
+pub mod Few

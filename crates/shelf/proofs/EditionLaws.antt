@@ -157,7 +157,8 @@ makes-new a r b e =
     }
 
 -- SHARE
-held-slot : (z : Shape) (σ : State) (i : ℕ) → σ .held i ≡ 1 → FreeSlot σ i ⊎ HeldSlot z σ i → HeldSlot z σ i
+-- a slot of a sound arena that is held is not a free one, so it has a map
+pub held-slot : (z : Shape) (σ : State) (i : ℕ) → σ .held i ≡ 1 → FreeSlot σ i ⊎ HeldSlot z σ i → HeldSlot z σ i
 held-slot z σ i e (inl f) = absurd (omega (arith, f .not-held))
 held-slot z σ i e (inr k) = k
 

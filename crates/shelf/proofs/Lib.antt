@@ -3,4 +3,5 @@ pub mod PutLaws
 pub mod FormatLaws
 pub mod EditionLaws
 pub mod ReadLaws
+pub mod LookLaws
 pub mod RefusalLaws

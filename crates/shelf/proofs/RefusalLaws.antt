@@ -5,12 +5,12 @@ use Prim.Native.Nat.{ℕ, _≤_, _<_}
 use mathlib.Core.Path.{_≡_, refl, sym, ap, _∙_, subst}
 use mathlib.Core.Bool.{true, false, cond}
 use mathlib.Core.List.{List}
-use mathlib.Core.Logic.{_↔_, ⊎-elim}
+use mathlib.Core.Logic.{_⊎_, inl, inr, _↔_, ⊎-elim}
 use native.Mathlib.Omega.{arith}
 use lib.Dec.{eqb}
 use lib.ListN.{length}
 use borrow.Author.Tests.{eqb-true}
-use Rattle.cases.proofs.Cases.{split, lt?}
+use Rattle.cases.proofs.Cases.{Tri, is-less, is-equal, is-more, split, lt?, tri}
 use Rattle.segments.specs.Segments.{rowOf}
 use Rattle.segments.specs.declared.DegreeRow.{DegreeRow}
 use Rattle.segments.specs.declared.DegreeRow.the-variants.{Found, NotInTable}
@@ -22,6 +22,9 @@ use Rattle.layout.specs.Layout.{total}
 use Rattle.layout.specs.Header.{Header, sizesFit, shape, shapeOf, headerOf}
 use Rattle.layout.specs.Columns.{slotWord}
 use Rattle.layout.proofs.HeaderLaws.{shape-fits, shape-sizes, shape-degree, header-says, header-once}
+use Rattle.trie.specs.Entry.{Got, absent, got}
+use Rattle.lookup.specs.Lookup.{getBelow}
+use Rattle.iter.specs.Met.{met}
 use Rattle.cells.specs.declared.Slot.{Slot}
 use Rattle.cells.specs.declared.Slot.the-variants.{At, NoneFree}
 use Rattle.cells.specs.Slots.{heldSlot, freeSlot}
@@ -29,10 +32,11 @@ use Rattle.cells.proofs.SlotLaws.{held-says, held-is, free-slot-lowest, free-sl
 use Rattle.shelf.specs.declared.Refusal.{Refusal}
 use Rattle.shelf.specs.declared.Refusal.the-variants as Why
 use Rattle.shelf.specs.Answers.{Answer, numberOf, refused, done}
-use Rattle.shelf.specs.Calls.{Outcome, leaves, onHeader, formatOf, newTo, newEditionIn, newEditionOf, shareTo, shareHeld, shareIn, shareOf, sizeOf, inUseOf}
+use Rattle.shelf.specs.Calls.{Outcome, leaves, onHeader, formatOf, newTo, newEditionIn, newEditionOf, shareTo, shareHeld, shareIn, shareOf, sizeWord, sizeOf, rootWord, valueFound, getIn, getOf, listFrom, listIn, listOf, equalOf, inUseOf}
 use Rattle.shelf.proofs.FormatLaws.{format-done, format-short, format-degree, format-sizes}
 use Rattle.shelf.proofs.EditionLaws.{header-right, header-wrong, new-at, new-none, share-at, share-none-free, share-held, share-not-held}
 use Rattle.shelf.proofs.ReadLaws.{size-held, size-not-held}
+use Rattle.shelf.proofs.LookLaws.{get-held, get-not-held, list-held, list-not-held, list-beyond, list-end, list-short, list-written, equal-held, equal-first-not-held, equal-second-not-held}
 
 -- A TABLE says of every number when it is given: a row for each that a call may give, and no other is given.
 abbrev pub Row : ℕ → Type 0 → (ℕ → Type 0) → ℕ → Type 0
@@ -117,25 +121,26 @@ module _ (a : List ℕ) (g b n s : ℕ) where
 abbrev pub Damaged : List ℕ → Type 0
 Damaged a = (z : Shape) → Header a z → ⊥
 
-pub record HeaderNumbered (a : List ℕ) (When : Shape → ℕ → Type 0) (o : Outcome) : Type 0 where
+-- Of the words a the header is tested, and the words b are what a refusal leaves unaltered: the arena again, or a listing's output.
+pub record HeaderNumbered (a b : List ℕ) (When : Shape → ℕ → Type 0) (o : Outcome) : Type 0 where
   pub damaged : (number o ≡ 4) ↔ Damaged a
   pub right : (number o ≡ 4 → ⊥) → (z : Shape) × Header a z
   pub exactly : (z : Shape) → Header a z → (k : ℕ) → (number o ≡ k) ↔ When z k
-  pub refusal : (number o ≡ 0 → ⊥) → Unaltered a o
+  pub refusal : (number o ≡ 0 → ⊥) → Unaltered b o
 
 -- a call that only reads, seen as an outcome: it leaves the words as they are
 abbrev pub read : List ℕ → Answer → Outcome
 read a x = leaves x a
 
-module _ {A : Type 0} (a : List ℕ) (see : A → Outcome) (When : Shape → ℕ → Type 0) (x : A) (f : Shape → A) where
-  header-numbered : see x ≡ leaves (refused Why.Damaged) a → ((z : Shape) → When z 4 → ⊥)
-      → ((z : Shape) → Numbered a (When z) (see (f z))) → HeaderNumbered a When (see (onHeader (headerOf a) x f))
+module _ {A : Type 0} (a b : List ℕ) (see : A → Outcome) (When : Shape → ℕ → Type 0) (x : A) (f : Shape → A) where
+  header-numbered : see x ≡ leaves (refused Why.Damaged) b → ((z : Shape) → When z 4 → ⊥)
+      → ((z : Shape) → Numbered b (When z) (see (f z))) → HeaderNumbered a b When (see (onHeader (headerOf a) x f))
   header-numbered wrong no-4 numbers = by (headerOf a) refl
     where
-      by : (y : Heading) → headerOf a ≡ y → HeaderNumbered a When (see (onHeader (headerOf a) x f))
+      by : (y : Heading) → headerOf a ≡ y → HeaderNumbered a b When (see (onHeader (headerOf a) x f))
       by Wrong e =
           let d : Damaged a = λ z h. let q = header-says a z .1 h in let m : _≡_ {A = ℕ} 0 1 = cc in omega arith in
-          let G : Gives a (see (onHeader (headerOf a) x f)) 4 = gives-refusal Why.Damaged (ap see (header-wrong _ x f e) ∙ wrong) in
+          let G : Gives b (see (onHeader (headerOf a) x f)) 4 = gives-refusal Why.Damaged (ap see (header-wrong _ x f e) ∙ wrong) in
           record {
             damaged = (λ q. d, λ q. G .is);
             right = λ ne. absurd (ne (G .is));
@@ -144,7 +149,7 @@ module _ {A : Type 0} (a : List ℕ) (see : A → Outcome) (When : Shape → ℕ
           }
       by (Right z) e =
           let h = header-says a z .0 e in
-          let N : Numbered a (When z) (see (onHeader (headerOf a) x f)) = rw (header-right (headerOf a) x f z e) (numbers z) in
+          let N : Numbered b (When z) (see (onHeader (headerOf a) x f)) = rw (header-right (headerOf a) x f z e) (numbers z) in
           record {
             damaged = (λ q. absurd (no-4 z (N .exactly 4 .0 q)), λ d. absurd (d z h));
             right = λ ne. (z, h);
@@ -162,9 +167,9 @@ module _ {X : Type 0} (z : Shape) (a : List ℕ) (e : ℕ) where
       split (heldSlot z a e) (λ q. held q (held-says z a e q))
       (λ q. not q (λ h. let p = held-is z a e (h .0) (h .1) in let m : _≡_ {A = ℕ} 0 1 = cc in omega arith))
 
-not-held-gives : (z : Shape) (a : List ℕ) (e : ℕ) (o : Outcome) → (heldSlot z a e ≡ false → o ≡ leaves (refused Why.NoSuchEdition) a)
-    → (Held z a e → ⊥) → Gives a o 5
-not-held-gives z a e o not n = by-held z a e (λ q h. absurd (n h)) (λ q m. gives-refusal Why.NoSuchEdition (not q))
+not-held-gives : (z : Shape) (a b : List ℕ) (e : ℕ) (o : Outcome) → (heldSlot z a e ≡ false → o ≡ leaves (refused Why.NoSuchEdition) b)
+    → (Held z a e → ⊥) → Gives b o 5
+not-held-gives z a b e o not n = by-held z a e (λ q h. absurd (n h)) (λ q m. gives-refusal Why.NoSuchEdition (not q))
 
 -- 7: "a new edition wanted, all S held"
 abbrev pub AllHeld : Shape → List ℕ → Type 0
@@ -189,9 +194,9 @@ put-gives z a o b none at = (
 abbrev pub NewWhen : List ℕ → Shape → ℕ → Type 0
 NewWhen a z = Row 7 (AllHeld z a) (Row 0 (AllHeld z a → ⊥) End)
 
-pub new-numbered : (a : List ℕ) → HeaderNumbered a (NewWhen a) (newEditionOf a)
+pub new-numbered : (a : List ℕ) → HeaderNumbered a a (NewWhen a) (newEditionOf a)
 new-numbered a =
-    header-numbered a (λ o. o) (NewWhen a) _ _ refl (λ z w. w)
+    header-numbered a a (λ o. o) (NewWhen a) _ _ refl (λ z w. w)
     (λ z.
     let p = put-gives z a (newEditionIn z a) (newTo z a) (new-none z a) (new-at z a) in
     numbered (row (p .0) (row (p .1) end)) (by-free z a (λ q v. (7, v)) (λ s q n. (0, n))))
@@ -201,14 +206,14 @@ abbrev pub ShareWhen : List ℕ → ℕ → Shape → ℕ → Type 0
 ShareWhen a e z =
     Row 5 (Held z a e → ⊥) (Row 7 (Held z a e × AllHeld z a) (Row 0 (Held z a e × (AllHeld z a → ⊥)) End))
 
-pub share-numbered : (a : List ℕ) (e : ℕ) → HeaderNumbered a (ShareWhen a e) (shareOf a e)
+pub share-numbered : (a : List ℕ) (e : ℕ) → HeaderNumbered a a (ShareWhen a e) (shareOf a e)
 share-numbered a e =
-    header-numbered a (λ o. o) (ShareWhen a e) _ _ refl (λ z w. w)
+    header-numbered a a (λ o. o) (ShareWhen a e) _ _ refl (λ z w. w)
     (λ z.
     let held : Held z a e → shareIn z a e ≡ shareHeld z a e = λ h. share-held z a e (held-is z a e (h .0) (h .1)) in
     let p = put-gives z a (shareHeld z a e) (shareTo z a e) (share-none-free z a e) (share-at z a e) in
     numbered
-    (row (not-held-gives z a e _ (share-not-held z a e))
+    (row (not-held-gives z a a e _ (share-not-held z a e))
     (row (λ w. rw (held (w .0)) (p .0 (w .1))) (row (λ w. rw (held (w .0)) (p .1 (w .1))) end)))
     (by-held z a e (λ q h. by-free z a (λ r v. (7, (h, v))) (λ s r n. (0, (h, n)))) (λ q n. (5, n))))
 
@@ -216,20 +221,101 @@ share-numbered a e =
 abbrev pub SizeWhen : List ℕ → ℕ → Shape → ℕ → Type 0
 SizeWhen a e z = Row 5 (Held z a e → ⊥) (Row 0 (Held z a e) End)
 
-pub size-numbered : (a : List ℕ) (e : ℕ) → HeaderNumbered a (SizeWhen a e) (read a (sizeOf a e))
+pub size-numbered : (a : List ℕ) (e : ℕ) → HeaderNumbered a a (SizeWhen a e) (read a (sizeOf a e))
 size-numbered a e =
-    header-numbered a (read a) (SizeWhen a e) _ _ refl (λ z w. w)
+    header-numbered a a (read a) (SizeWhen a e) _ _ refl (λ z w. w)
     (λ z.
     numbered
-    (row (not-held-gives z a e _ (λ q. ap (read a) (size-not-held z a e q)))
+    (row (not-held-gives z a a e _ (λ q. ap (read a) (size-not-held z a e q)))
     (row (λ h. gives-done (ap (read a) (size-held z a e (held-is z a e (h .0) (h .1))))) end))
     (by-held z a e (λ q h. (0, h)) (λ q n. (5, n))))
 
 -- IN USE
-pub in-use-numbered : (a : List ℕ) → HeaderNumbered a (λ z. Row 0 Unit End) (read a (inUseOf a))
+pub in-use-numbered : (a : List ℕ) → HeaderNumbered a a (λ z. Row 0 Unit End) (read a (inUseOf a))
 in-use-numbered a =
-    header-numbered a (read a) (λ z. Row 0 Unit End) _ _ refl (λ z w. w)
+    header-numbered a a (read a) (λ z. Row 0 Unit End) _ _ refl (λ z w. w)
     (λ z. numbered (row (λ w. gives-done refl) end) (0, tt))
 
 pub in-use-done : (a : List ℕ) → (inUseOf a .number ≡ 0) ↔ ((z : Shape) × Header a z)
 in-use-done a = let N = in-use-numbered a in (λ e. N .right (λ q. omega arith), λ w. N .exactly (w .0) (w .1) 0 .1 tt)
+
+-- GET. 6: "get, change, remove: key not there"
+module _ (a : List ℕ) (e h k : ℕ) where
+  -- what a lookup finds below the edition's root
+  abbrev pub lookedUp : Shape → Got
+  lookedUp z = getBelow z a (rootWord z a e) h k
+
+  abbrev pub GetWhen : Shape → ℕ → Type 0
+  GetWhen z =
+      Row 5 (Held z a e → ⊥)
+      (Row 6 (Held z a e × (lookedUp z ≡ absent)) (Row 0 (Held z a e × ((v : ℕ) × (lookedUp z ≡ got v))) End))
+
+  get-row : (z : Shape) → Held z a e → (y : Got) → lookedUp z ≡ y → (n : ℕ) × GetWhen z n
+  get-row z w absent q = (6, (w, q))
+  get-row z w (got v) q = (0, (w, (v, q)))
+
+  pub get-numbered : HeaderNumbered a a GetWhen (read a (getOf a e h k))
+  get-numbered =
+      header-numbered a a (read a) GetWhen _ _ refl (λ z w. w)
+      (λ z.
+      let held : Held z a e → (y : Got) → lookedUp z ≡ y → read a (getIn z a e h k) ≡ read a (valueFound y)
+      = λ w y q. ap (read a) (get-held z a e h k (held-is z a e (w .0) (w .1)) ∙ ap valueFound q) in
+      numbered
+      (row (not-held-gives z a a e _ (λ q. ap (read a) (get-not-held z a e h k q)))
+      (row (λ w. gives-refusal Why.Absent (held (w .0) absent (w .1)))
+      (row (λ w. gives-done (held (w .0) (got (w .1 .0)) (w .1 .1))) end)))
+      (by-held z a e (λ q w. get-row z w (lookedUp z) refl) (λ q n. (5, n))))
+
+-- LIST. "listing 11, then 10": "place above size", "room under 3 words, place below size". What it leaves is the output.
+module _ (a : List ℕ) (e place : ℕ) (out : List ℕ) where
+  abbrev pub ListWhen : Shape → ℕ → Type 0
+  ListWhen z =
+      Row 5 (Held z a e → ⊥)
+      (Row 11 (Held z a e × (sizeWord z a e < place))
+      (Row 10 (Held z a e × (place < sizeWord z a e) × (length out < 3))
+      (Row 0 (Held z a e × (place ≤ sizeWord z a e) × (place < sizeWord z a e → 3 ≤ length out)) End)))
+
+  list-row : (z : Shape) → Held z a e → Tri place (sizeWord z a e) → (n : ℕ) × ListWhen z n
+  list-row z w (is-less l) =
+      ⊎-elim (λ s. (10, (w, l, s))) (λ s. (0, (w, omega arith, λ m. s))) (lt? (length out) 3)
+  list-row z w (is-equal q) = (0, (w, omega arith, λ l. absurd (omega arith)))
+  list-row z w (is-more l) = (11, (w, l))
+
+  pub list-numbered : HeaderNumbered a out ListWhen (listOf a e place out)
+  list-numbered =
+      header-numbered a out (λ o. o) ListWhen _ _ refl (λ z w. w)
+      (λ z.
+      let n = sizeWord z a e in
+      let es = met z a (rootWord z a e) in
+      let held : Held z a e → listIn z a e place out ≡ listFrom n es place out
+      = λ w. list-held z a e place out (held-is z a e (w .0) (w .1)) in
+      numbered
+      (row (not-held-gives z a out e _ (list-not-held z a e place out))
+      (row (λ w. gives-refusal Why.BeyondTheEnd (held (w .0) ∙ list-beyond n es place out (w .1)))
+      (row (λ w. gives-refusal Why.OutputTooShort (held (w .0) ∙ list-short n es place out (w .1) (w .2)))
+      (row
+      (λ w.
+      ⊎-elim
+      (λ l. gives-done (held (w .0) ∙ list-written n es place out l (w .2 l)))
+      (λ l. gives-done (held (w .0) ∙ list-end n es place out (omega (arith, w .1))))
+      (lt? place n))
+      end))))
+      (by-held z a e (λ q w. list-row z w (tri place n)) (λ q n. (5, n))))
+
+-- EQUAL. 5 of either edition
+module _ (a : List ℕ) (e f : ℕ) where
+  abbrev pub EqualWhen : Shape → ℕ → Type 0
+  EqualWhen z = Row 5 ((Held z a e → ⊥) ⊎ (Held z a f → ⊥)) (Row 0 (Held z a e × Held z a f) End)
+
+  pub equal-numbered : HeaderNumbered a a EqualWhen (read a (equalOf a e f))
+  equal-numbered =
+      header-numbered a a (read a) EqualWhen _ _ refl (λ z w. w)
+      (λ z.
+      numbered
+      (row
+      (⊎-elim
+      (not-held-gives z a a e _ (λ q. ap (read a) (equal-first-not-held z a e f q)))
+      (not-held-gives z a a f _ (λ q. ap (read a) (equal-second-not-held z a e f q))))
+      (row
+      (λ (v, w). gives-done (ap (read a) (equal-held z a e f (held-is z a e (v .0) (v .1)) (held-is z a f (w .0) (w .1))))) end))
+      (by-held z a e (λ q v. by-held z a f (λ r w. (0, (v, w))) (λ r n. (5, inr n))) (λ q n. (5, inl n))))

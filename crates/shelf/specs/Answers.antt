@@ -8,6 +8,10 @@ use Rattle.shelf.specs.declared.Made.{Made}
 use Rattle.shelf.specs.declared.Made.the-variants as M
 use Rattle.shelf.specs.declared.Counted.{Counted}
 use Rattle.shelf.specs.declared.Counted.the-variants as C
+use Rattle.shelf.specs.declared.Found.{Found}
+use Rattle.shelf.specs.declared.Found.the-variants as D
+use Rattle.shelf.specs.declared.Compared.{Compared}
+use Rattle.shelf.specs.declared.Compared.the-variants as E
 use Rattle.shelf.specs.declared.InUse.{InUse}
 use Rattle.shelf.specs.declared.InUse.the-variants as U
 
@@ -56,3 +60,13 @@ counted (C.Refused r) = refused r
 abbrev pub inUse : InUse → Answer
 inUse (U.Cells b n) = done b n
 inUse (U.Refused r) = refused r
+
+abbrev pub found : Found → Answer
+found (D.Value v) = done v 0
+found (D.Refused r) = refused r
+
+-- a comparison that is done answers 1 for equal and 0 for not
+abbrev pub compared : Compared → Answer
+compared E.Equal = done 1 0
+compared E.Different = done 0 0
+compared (E.Refused r) = refused r

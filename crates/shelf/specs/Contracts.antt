@@ -3,7 +3,10 @@
 use Prim.Native.Nat.{ℕ}
 use mathlib.Core.Path.{_≡_}
 use mathlib.Core.List.{List}
-use Rattle.trie.specs.Trie.{Map, empty, size}
+use Rattle.segments.specs.Segments.{segment}
+use Rattle.trie.specs.Trie.{Map, empty, size, get, listing, equal}
+use Rattle.trie.specs.Names.{forget}
+use Rattle.trie.specs.Built.{Built}
 use Rattle.layout.specs.declared.Shape.{Shape}
 use Rattle.layout.specs.Header.{Header}
 use Rattle.layout.specs.Columns.{columns}
@@ -15,10 +18,12 @@ use Rattle.shelf.specs.declared.Made.{Made}
 use Rattle.shelf.specs.declared.Made.the-variants as M
 use Rattle.shelf.specs.declared.Counted.{Counted}
 use Rattle.shelf.specs.declared.Counted.the-variants as C
+use Rattle.shelf.specs.declared.Found.{Found}
+use Rattle.shelf.specs.declared.Compared.{Compared}
 use Rattle.shelf.specs.declared.InUse.{InUse}
 use Rattle.shelf.specs.declared.InUse.the-variants as U
-use Rattle.shelf.specs.Answers.{formatted, made, counted, inUse}
-use Rattle.shelf.specs.Calls.{leaves, formatOf, newEditionOf, shareOf, sizeOf, inUseOf}
+use Rattle.shelf.specs.Answers.{formatted, made, counted, found, compared, inUse}
+use Rattle.shelf.specs.Calls.{leaves, formatOf, newEditionOf, shareOf, sizeOf, inUseOf, getOf, valueFound, listOf, listFrom, equalOf, told}
 
 -- slot e of an arena with this header holds the map m
 abbrev pub Holds : Shape → List ℕ → ℕ → Map ℕ → Type 0
@@ -52,3 +57,22 @@ pub record Sizes (a : List ℕ) (e : ℕ) (r : Counted) : Type 0 where
 pub record Uses (a : List ℕ) (r : InUse) : Type 0 where
   pub result : inUse r ≡ inUseOf a
   pub reached : (s : Sound a) → r ≡ U.Cells (reachedOf (s .shape) (s .cells .reached) 0) (reachedOf (s .shape) (s .cells .reached) 1)
+
+-- slot e holds the map m, "a trie that the rules above can build"; in a sound arena every held slot holds one
+pub record Shelves (z : Shape) (a : List ℕ) (e : ℕ) (m : Map ℕ) : Type 0 where
+  pub holds : Holds z a e m
+  pub built : Built (segment (z .bits)) (z .depths) (forget m)
+
+pub record Gets (a : List ℕ) (e h k : ℕ) (r : Found) : Type 0 where
+  pub result : found r ≡ getOf a e h k
+  pub shown : (z : Shape) → Header a z → (m : Map ℕ) → Holds z a e m → found r ≡ valueFound (get (segment (z .bits)) (z .depths) h k m)
+
+pub record Lists (a : List ℕ) (e place : ℕ) (out : List ℕ) (r : Counted) (out′ : List ℕ) : Type 0 where
+  pub outcome : leaves (counted r) out′ ≡ listOf a e place out
+  pub shown : (z : Shape) → Header a z → (m : Map ℕ) → Shelves z a e m → leaves (counted r) out′ ≡ listFrom (size m) (listing m) place out
+
+pub record Compares (a : List ℕ) (e f : ℕ) (r : Compared) : Type 0 where
+  pub result : compared r ≡ equalOf a e f
+  pub shown :
+      (z : Shape) → Header a z → (m n : Map ℕ) → Shelves z a e m → Shelves z a f n
+      → compared r ≡ told (equal (segment (z .bits)) (z .depths) m n)

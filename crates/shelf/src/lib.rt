@@ -14,12 +14,13 @@ use layout::Shape;
 use layout::Shaped;
 use layout::header;
 use layout::words;
+use lookup::Looked;
 ghost use mathlib.Core.Path.{_≡_};
 ghost use Prim.Native.Nat.{_<_};
 ghost use Rattle.layout.specs.Layout.{Lent};
-ghost use Rattle.shelf.specs.Answers.{numberOf, made, counted};
-ghost use Rattle.shelf.specs.Calls.{leaves, newEditionIn, shareHeld, shareIn, sizeIn};
-ghost use Rattle.shelf.specs.Contracts.{Formats, MakesNew, Shares, Sizes, Uses};
+ghost use Rattle.shelf.specs.Answers.{numberOf, made, counted, found, compared};
+ghost use Rattle.shelf.specs.Calls.{leaves, newEditionIn, shareHeld, shareIn, sizeIn, getIn, listHeld, listIn, sameEntries, equalIn};
+ghost use Rattle.shelf.specs.Contracts.{Formats, MakesNew, Shares, Sizes, Uses, Gets, Lists, Compares};
 
 // Why a call is refused, with document 01's words for its numbers 1 to 12.
 pub enum Refusal {
@@ -72,6 +73,17 @@ pub enum Made {
 
 pub enum Counted {
     Entries(u64),
+    Refused(Refusal),
+}
+
+pub enum Found {
+    Value(u64),
+    Refused(Refusal),
+}
+
+pub enum Compared {
+    Equal,
+    Different,
     Refused(Refusal),
 }
 
@@ -190,5 +202,116 @@ pub fn in_use(a: &[u64]) -> InUse
             entries: words::kind_word(a, z, words::IN_USE, 1),
         },
         Heading::Wrong => InUse::Refused(Refusal::Damaged),
+    }
+}
+
+fn get_in(a: &[u64], z: Shape, edition: u64, hash: u64, key: u64) -> Found
+    requires { ⌜ Lent z (now a) ⌝ }
+    ensures { λ r. ⌜ found r ≡ getIn z (now (a .entry)) edition hash key ⌝ }
+{
+    if slots::is_held(a, z, edition) {
+        let root = words::slot_word(a, z, edition, words::ROOT);
+        match lookup::get(a, z, root, hash, key) {
+            Looked::Value(v) => Found::Value(v),
+            Looked::Missing => Found::Refused(Refusal::Absent),
+        }
+    } else {
+        Found::Refused(Refusal::NoSuchEdition)
+    }
+}
+
+// The value of a hash and a key in an edition.
+pub fn get(a: &[u64], edition: u64, hash: u64, key: u64) -> Found
+    ensures { λ r. ⌜ Gets (now (a .entry)) edition hash key r ⌝ }
+{
+    match header::read(a) {
+        Heading::Right(z) => get_in(a, z, edition, hash, key),
+        Heading::Wrong => Found::Refused(Refusal::Damaged),
+    }
+}
+
+// At the end there is nothing to walk for, whatever the room.
+fn list_held(a: &[u64], z: Shape, edition: u64, place: u64, out: &mut [u64]) -> Counted
+    requires { ⌜ Lent z (now a) ⌝ }
+    requires { ⌜ edition < z .slots ⌝ }
+    ensures { λ r. ⌜ leaves (counted r) (now (out .exit)) ≡ listHeld z (now (a .entry)) edition place (now (out .entry)) ⌝ }
+{
+    let size = words::slot_word(a, z, edition, words::SIZE);
+    if size < place {
+        return Counted::Refused(Refusal::BeyondTheEnd);
+    }
+    if place == size {
+        return Counted::Entries(0);
+    }
+    if out.len() < reads::ENTRY_WORDS {
+        return Counted::Refused(Refusal::OutputTooShort);
+    }
+    let root = words::slot_word(a, z, edition, words::ROOT);
+    Counted::Entries(reads::list(a, z, root, place, out))
+}
+
+fn list_in(a: &[u64], z: Shape, edition: u64, place: u64, out: &mut [u64]) -> Counted
+    requires { ⌜ Lent z (now a) ⌝ }
+    ensures { λ r. ⌜ leaves (counted r) (now (out .exit)) ≡ listIn z (now (a .entry)) edition place (now (out .entry)) ⌝ }
+{
+    if slots::is_held(a, z, edition) {
+        list_held(a, z, edition, place, out)
+    } else {
+        Counted::Refused(Refusal::NoSuchEdition)
+    }
+}
+
+// Writes hash, key, value for each entry of an edition from a place in its listing on, while three words of room remain,
+// and answers how many entries. The remaining room is left as it is.
+pub fn list(a: &[u64], edition: u64, place: u64, out: &mut [u64]) -> Counted
+    ensures { λ r. ⌜ Lists (now (a .entry)) edition place (now (out .entry)) r (now (out .exit)) ⌝ }
+{
+    match header::read(a) {
+        Heading::Right(z) => list_in(a, z, edition, place, out),
+        Heading::Wrong => Counted::Refused(Refusal::Damaged),
+    }
+}
+
+// Two editions with one root are one trie. Where the sizes agree, one way of looking is enough.
+fn is_equal(a: &[u64], z: Shape, first: u64, second: u64) -> bool
+    requires { ⌜ Lent z (now a) ⌝ }
+    requires { ⌜ (first < z .slots) × (second < z .slots) ⌝ }
+    ensures { λ b. ⌜ b ≡ sameEntries z (now (a .entry)) first second ⌝ }
+{
+    let root = words::slot_word(a, z, first, words::ROOT);
+    let other = words::slot_word(a, z, second, words::ROOT);
+    if root == other {
+        return true;
+    }
+    if words::slot_word(a, z, first, words::SIZE) != words::slot_word(a, z, second, words::SIZE) {
+        return false;
+    }
+    reads::agrees(a, z, root, other)
+}
+
+fn equal_in(a: &[u64], z: Shape, first: u64, second: u64) -> Compared
+    requires { ⌜ Lent z (now a) ⌝ }
+    ensures { λ r. ⌜ compared r ≡ equalIn z (now (a .entry)) first second ⌝ }
+{
+    if !slots::is_held(a, z, first) {
+        return Compared::Refused(Refusal::NoSuchEdition);
+    }
+    if !slots::is_held(a, z, second) {
+        return Compared::Refused(Refusal::NoSuchEdition);
+    }
+    if is_equal(a, z, first, second) {
+        Compared::Equal
+    } else {
+        Compared::Different
+    }
+}
+
+// Whether two editions have the same entries, whatever their order in chains.
+pub fn equal(a: &[u64], first: u64, second: u64) -> Compared
+    ensures { λ r. ⌜ Compares (now (a .entry)) first second r ⌝ }
+{
+    match header::read(a) {
+        Heading::Right(z) => equal_in(a, z, first, second),
+        Heading::Wrong => Compared::Refused(Refusal::Damaged),
     }
 }

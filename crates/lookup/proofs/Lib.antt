@@ -1,0 +1,3 @@
+pub mod FindLaws
+pub mod RowLaws
+pub mod Meaning
