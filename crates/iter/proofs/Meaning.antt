@@ -25,7 +25,7 @@ use Rattle.layout.proofs.ColumnLaws.{refs-few}
 use Rattle.arena.specs.Shows.{behind, ShowsChain, Shows, ShowsRow, ShowsMap}
 use Rattle.arena.proofs.Frames.{shown-some}
 use Rattle.lookup.specs.Lookup.{namesKind, entryAt}
-use Rattle.iter.specs.Met.{placeOf, waits, climbed, behindEntry, enters, metFrom, met}
+use Rattle.iter.specs.Met.{visits, placeOf, waits, climbed, behindEntry, enters, metFrom, met}
 use Rattle.iter.proofs.WalkLaws.{onFrom, step-entry, step-stop, met-enter, climbed-none, climbed-some, behind-next, behind-climb}
 
 -- CELLS. How many a node has, and the children of a branch
@@ -191,4 +191,4 @@ met-shown seg W z a w m r c h =
     let lb = branches-few z (columns z a) live seg W (z .depths) m r c h in
     let le = entries-few z (columns z a) live seg W (z .depths) m r c h in
     met-from z (columns z a) (live-named z a w) (λ q k l. kid-out z a q k (omega (arith, refs-few z q w))) seg W (z .depths)
-    (depths-few z w) m r c h (z .branches + z .entries) (omega (arith, map-both m, lb, le))
+    (depths-few z w) m r c h (visits z) (omega (arith, map-both m, lb, le))

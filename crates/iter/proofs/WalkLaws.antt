@@ -20,7 +20,7 @@ use Rattle.trie.specs.Entry.{Entry}
 use Rattle.layout.specs.declared.Shape.{Shape}
 use Rattle.lookup.specs.Lookup.{namesKind, entryAt}
 use Rattle.iter.specs.declared.Iter.{Iter}
-use Rattle.iter.specs.Met.{placeOf, waits, waiting, Spot, spot, climbed, behindEntry, enters, metFrom, still, hasEntry, Settled}
+use Rattle.iter.specs.Met.{onward, first, placeOf, waits, waiting, Spot, spot, climbed, behindEntry, enters, metFrom, still, hasEntry, Settled}
 
 -- THE STACK
 pub waiting-length : (stack : List ℕ) (d : ℕ) → length (waiting stack d) ≡ d
@@ -46,7 +46,7 @@ unfolding climbed
 climbed-none σ p ps e = rw (eq-eqb (waits σ p) 0 e)
 
 pub climbed-some : (σ : State) (p : ℕ) (ps : List ℕ) → (waits σ p ≡ 0 → ⊥)
-    → climbed σ (p ∷ ps) ≡ spot (waits σ p) (suc p ∷ ps)
+    → climbed σ (p ∷ ps) ≡ spot (waits σ p) (onward p ∷ ps)
 unfolding climbed
 climbed-some σ p ps ne = rw (ne-eqb (waits σ p) 0 ne)
 
@@ -76,7 +76,7 @@ module _ (z : Shape) (σ : State) (n r : ℕ) (ps : List ℕ) where
   step-entry e = rw e
 
   pub met-enter : namesKind z 0 r ≡ true → length ps < 65
-      → metFrom z σ (suc n) r ps ≡ metFrom z σ n (σ .kid r 0) (placeOf r 1 ∷ ps)
+      → metFrom z σ (suc n) r ps ≡ metFrom z σ n (first σ r) (placeOf r 1 ∷ ps)
   unfolding metFrom enters
   met-enter e l = rw (branch-no-entry z r e, lt-ltb (length ps) 65 l, e)
 
@@ -120,14 +120,14 @@ waiting-top stack (suc d) l = let k : suc d - 1 ≡ d = omega arith in rw k (unf
 
 module _ (z : Shape) (σ : State) (stack : List ℕ) where
   -- downwards: the branch waits from its second child on
-  pub dig-on : (n r d c : ℕ) → 0 < n → d < 65 → length stack ≡ 65 → namesKind z 0 r ≡ true → c ≡ σ .kid r 0
+  pub dig-on : (n r d c : ℕ) → 0 < n → d < 65 → length stack ≡ 65 → namesKind z 0 r ≡ true → c ≡ first σ r
       → metFrom z σ n r (waiting stack d) ≡ metFrom z σ (n - 1) c (waiting (set stack d (r * 128 + 1)) (d + 1))
   dig-on zero r d c l ld ls e q = absurd (omega arith)
   dig-on (suc n) r d c l ld ls e q =
       let k : n ≡ suc n - 1 = omega arith in
       let m : suc d ≡ d + 1 = omega arith in
       met-enter z σ n r (waiting stack d) e (rw (waiting-length stack d) ld)
-      ∙ ap₂ (λ (i : ℕ) (ps : List ℕ). metFrom z σ i (σ .kid r 0) ps) k
+      ∙ ap₂ (λ (i : ℕ) (ps : List ℕ). metFrom z σ i (first σ r) ps) k
       (sym (waiting-push stack d (r * 128 + 1) (omega arith)) ∙ ap (waiting (set stack d (r * 128 + 1))) m)
       ∙ ap (λ (x : ℕ). metFrom z σ (suc n - 1) x (waiting (set stack d (r * 128 + 1)) (d + 1))) (sym q)
 
@@ -139,16 +139,22 @@ module _ (σ : State) (stack : List ℕ) where
         ap (climbed σ) (waiting-top stack d l ∙ ap (λ (x : ℕ). x ∷ waiting stack (d - 1)) (sym top))
         ∙ climbed-none σ p (waiting stack (d - 1)) (sym child ∙ e)
 
-    pub climb-found : (c ≡ 0 → ⊥) → d ≤ length stack → climbed σ (waiting stack d) ≡ spot c (waiting (set stack (d - 1) (p + 1)) d)
-    climb-found ne ls =
-        let k : d ≡ suc (d - 1) = omega arith in
-        let m : suc p ≡ p + 1 = omega arith in
-        let pushed : waiting (set stack (d - 1) (p + 1)) d ≡ suc p ∷ waiting stack (d - 1)
-        = ap (waiting (set stack (d - 1) (p + 1))) k ∙ waiting-push stack (d - 1) (p + 1) (omega arith)
-        ∙ ap (λ (x : ℕ). x ∷ waiting stack (d - 1)) (sym m) in
-        ap (climbed σ) (waiting-top stack d l ∙ ap (λ (x : ℕ). x ∷ waiting stack (d - 1)) (sym top))
-        ∙ climbed-some σ p (waiting stack (d - 1)) (λ e. ne (child ∙ e))
-        ∙ (λ i. spot (sym child i) (sym pushed i))
+    module _ (s : Spot) (rest : s ≡ climbed σ (waiting stack d)) (some : c ≡ 0 → ⊥) where
+      found : s ≡ spot c (onward p ∷ waiting stack (d - 1))
+      found =
+          rest ∙ ap (climbed σ) (waiting-top stack d l ∙ ap (λ (x : ℕ). x ∷ waiting stack (d - 1)) (sym top))
+          ∙ climbed-some σ p (waiting stack (d - 1)) (λ e. some (child ∙ e))
+          ∙ ap (λ (x : ℕ). spot x (onward p ∷ waiting stack (d - 1))) (sym child)
+
+      pub found-at : c ≡ s .at
+      found-at = sym (ap (λ (y : Spot). y .at) found)
+
+      pub found-places : (q : ℕ) → q ≡ onward p → d ≤ length stack → waiting (set stack (d - 1) q) d ≡ s .places
+      found-places q on ls =
+          let k : d ≡ suc (d - 1) = omega arith in
+          ap (waiting (set stack (d - 1) q)) k ∙ waiting-push stack (d - 1) q (omega arith)
+          ∙ ap (λ (x : ℕ). x ∷ waiting stack (d - 1)) on
+          ∙ sym (ap (λ (y : Spot). y .places) found)
 
   pub climb-over : (d : ℕ) → d ≡ 0 → climbed σ (waiting stack d) ≡ spot 0 (waiting stack d)
   unfolding waiting climbed

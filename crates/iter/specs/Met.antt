@@ -33,14 +33,22 @@ pub record Spot : Type 0 where
 abbrev pub spot : ℕ → List ℕ → Spot
 spot r ps = record { at = r; places = ps }
 
--- the next child of the last branch that has one; the place moves on to the child behind it
+-- the place of the child behind
+abbrev pub onward : ℕ → ℕ
+onward p = suc p
+
+-- the next child of the last branch that has one; its place moves on
 unfoldable pub climbed : State → List ℕ → Spot
 climbed σ [] = spot 0 []
-climbed σ (p ∷ ps) = cond (eqb (waits σ p) 0) (climbed σ ps) (spot (waits σ p) (suc p ∷ ps))
+climbed σ (p ∷ ps) = cond (eqb (waits σ p) 0) (climbed σ ps) (spot (waits σ p) (onward p ∷ ps))
 
 -- behind an entry: the next in its chain, or else upwards
 unfoldable pub behindEntry : State → ℕ → List ℕ → Spot
 behindEntry σ r ps = cond (eqb (σ .kid r 0) 0) (climbed σ ps) (spot (σ .kid r 0) ps)
+
+-- a branch's first child
+abbrev pub first : State → ℕ → ℕ
+first σ r = σ .kid r 0
 
 -- whether the walk enters r: a branch, while there is a place for it
 unfoldable pub enters : Shape → ℕ → ℕ → Bool
@@ -52,11 +60,15 @@ metFrom z σ zero r ps = []
 metFrom z σ (suc n) r ps =
     cond (namesKind z 1 r)
     (entryAt σ r ∷ (let s = behindEntry σ r ps in metFrom z σ n (s .at) (s .places)))
-    (cond (enters z r (length ps)) (metFrom z σ n (σ .kid r 0) (placeOf r 1 ∷ ps)) [])
+    (cond (enters z r (length ps)) (metFrom z σ n (first σ r) (placeOf r 1 ∷ ps)) [])
 
--- the entries met below a root: a step for each cell that an arena of this shape has
+-- a step for each cell that an arena of this shape has
+abbrev pub visits : Shape → ℕ
+visits z = z .branches + z .entries
+
+-- the entries met below a root
 abbrev pub met : Shape → List ℕ → ℕ → List Entry
-met z a r = metFrom z (columns z a) (z .branches + z .entries) r []
+met z a r = metFrom z (columns z a) (visits z) r []
 
 -- what an iterator and its stack still meet
 abbrev pub still : Shape → List ℕ → List ℕ → Iter → List Entry

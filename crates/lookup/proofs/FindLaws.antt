@@ -11,7 +11,7 @@ use Rattle.layout.specs.Layout.{has, kindOf, names}
 use Rattle.layout.specs.Columns.{columns, word, plainPlace, refs, State}
 use Rattle.layout.proofs.ColumnLaws.{plain-in, has-entry}
 use Rattle.lookup.specs.declared.Hit.{Hit}
-use Rattle.lookup.specs.Lookup.{valueAt, getBelow, childIn, childAt, namesKind, entryAt, pathEnd, hitFrom}
+use Rattle.lookup.specs.Lookup.{hop, longest, valueAt, getBelow, childIn, childAt, namesKind, entryAt, pathEnd, hitFrom}
 use mathlib.Core.List.{List}
 use Rattle.cases.proofs.Cases.{split, both}
 use Rattle.segments.specs.Segments.{segment}
@@ -47,7 +47,7 @@ module _ (z : Shape) (σ : State) (h : ℕ) where
   path-stays zero t r e = refl
   path-stays (suc n) t r e = rw e
 
-  pub path-enters : (n t r c : ℕ) → namesKind z 0 r ≡ true → childAt σ r (segment (z .bits) t h) ≡ c
+  pub path-enters : (n t r c : ℕ) → namesKind z 0 r ≡ true → hop z σ h t r ≡ c
       → pathEnd z σ h (suc n) t r ≡ pathEnd z σ h n (suc t) c
   unfolding pathEnd
   path-enters n t r c e q = rw (e, q)
@@ -123,12 +123,12 @@ child-by z a r s b p e eb ep =
 
 -- LOOPS. What is left of a path, and of a search.
 module _ (z : Shape) (σ : State) (h : ℕ) where
-  pub path-on : (d t r s c : ℕ) → t < d → namesKind z 0 r ≡ true → s ≡ segment (z .bits) t h → c ≡ childAt σ r s
+  pub path-on : (d t r c : ℕ) → t < d → namesKind z 0 r ≡ true → c ≡ hop z σ h t r
       → pathEnd z σ h (d - t) t r ≡ pathEnd z σ h (d - (t + 1)) (t + 1) c
-  path-on d t r s c l e q y =
+  path-on d t r c l e q =
       let n : d - t ≡ suc (d - (t + 1)) = omega arith in
       let m : suc t ≡ t + 1 = omega arith in
-      ap (λ (i : ℕ). pathEnd z σ h i t r) n ∙ path-enters z σ h (d - (t + 1)) t r c e (sym (y ∙ ap (childAt σ r) q))
+      ap (λ (i : ℕ). pathEnd z σ h i t r) n ∙ path-enters z σ h (d - (t + 1)) t r c e (sym q)
       ∙ ap (λ (i : ℕ). pathEnd z σ h (d - (t + 1)) i c) m
 
   pub path-first : (d r : ℕ) → pathEnd z σ h d 0 r ≡ pathEnd z σ h (d - 0) 0 r
@@ -156,6 +156,6 @@ module _ (z : Shape) (σ : State) (h k : ℕ) where
 
 -- the value below a root, by where the path ends
 pub value-below : (z : Shape) (a : List ℕ) (r h k front : ℕ) (v : Hit) → front ≡ pathEnd z (columns z a) h (z .depths) 0 r
-    → hitFrom z (columns z a) h k (z .entries) front ≡ v → getBelow z a r h k ≡ valueAt (columns z a) v
+    → hitFrom z (columns z a) h k (longest z) front ≡ v → getBelow z a r h k ≡ valueAt (columns z a) v
 value-below z a r h k front v ef ev =
-    ap (valueAt (columns z a)) (ap (λ (x : ℕ). hitFrom z (columns z a) h k (z .entries) x) (sym ef) ∙ ev)
+    ap (valueAt (columns z a)) (ap (λ (x : ℕ). hitFrom z (columns z a) h k (longest z) x) (sym ef) ∙ ev)

@@ -22,7 +22,7 @@ use Rattle.trie.proofs.PathLaws.{chain-leaf, hop-found, hop-missing}
 use Rattle.arena.specs.Shows.{bitmap, ShowsChain, Shows, ShowsMap}
 use Rattle.arena.proofs.RefLaws.{refs-some}
 use Rattle.arena.proofs.Few.{chain-few, columns-live}
-use Rattle.lookup.specs.Lookup.{namesKind, entryAt, childAt, pathEnd, hitFrom, valueAt, getBelow}
+use Rattle.lookup.specs.Lookup.{longest, namesKind, entryAt, childAt, pathEnd, hitFrom, valueAt, getBelow}
 use Rattle.lookup.proofs.FindLaws.{kind-is, kind-other, none-branch, path-stays, path-enters, hit-ends, hit-here, hit-later}
 use Rattle.lookup.proofs.RowLaws.{bit-missing, child-by-bit}
 
@@ -110,8 +110,8 @@ pub get-shown : (z : Shape) (a : List ℕ) → Allowed z → (h k : ℕ) (m : Ma
 unfolding ShowsMap get find
 get-shown z a w h k empty r c =
     rw (c, path-stays z (columns z a) h (z .depths) 0 0 (none-branch z))
-    (no-entry z (columns z a) h k (z .entries) 0 (λ e. omega arith))
+    (no-entry z (columns z a) h k (longest z) 0 (λ e. omega arith))
 get-shown z a w h k (root m) r c =
-    path-hit z (columns z a) (live-named z a w) h k (z .entries)
+    path-hit z (columns z a) (live-named z a w) h k (longest z)
     (chain-few z (columns z a) (columns-live z a (omega (arith, small z w .degree-low))))
     (λ t. segment-low z w t h) (z .depths) 0 m r c

@@ -35,10 +35,14 @@ childIn σ r P.Refused = 0
 abbrev pub childAt : State → ℕ → ℕ → ℕ
 childAt σ r s = childIn σ r (placeOf (σ .plain r 0) s)
 
--- where the path of the hash h ends: from the reference r at depth t, with n depths left
+-- where the path of the hash h goes from the branch r at depth t
+abbrev pub hop : Shape → State → ℕ → ℕ → ℕ → ℕ
+hop z σ h t r = childAt σ r (segment (z .bits) t h)
+
+-- where it ends: from the reference r at depth t, with n depths left
 unfoldable pub pathEnd : Shape → State → ℕ → ℕ → ℕ → ℕ → ℕ
 pathEnd z σ h zero t r = r
-pathEnd z σ h (suc n) t r = cond (namesKind z 0 r) (pathEnd z σ h n (suc t) (childAt σ r (segment (z .bits) t h))) r
+pathEnd z σ h (suc n) t r = cond (namesKind z 0 r) (pathEnd z σ h n (suc t) (hop z σ h t r)) r
 
 -- the first of at most n entries from r on that has this hash and this key
 unfoldable pub hitFrom : Shape → State → ℕ → ℕ → ℕ → ℕ → Hit
@@ -46,9 +50,13 @@ hitFrom z σ h k zero r = Nowhere
 hitFrom z σ h k (suc n) r =
     cond (namesKind z 1 r) (cond (matches h k (entryAt σ r)) (At r) (hitFrom z σ h k n (σ .kid r 0))) Nowhere
 
--- the entry below a root; a chain has no more entries than the arena
+-- a chain has no more entries than the arena
+abbrev pub longest : Shape → ℕ
+longest z = z .entries
+
+-- the entry below a root
 abbrev pub hitBelow : Shape → List ℕ → ℕ → ℕ → ℕ → Hit
-hitBelow z a r h k = hitFrom z (columns z a) h k (z .entries) (pathEnd z (columns z a) h (z .depths) 0 r)
+hitBelow z a r h k = hitFrom z (columns z a) h k (longest z) (pathEnd z (columns z a) h (z .depths) 0 r)
 
 abbrev pub valueAt : State → Hit → Got
 valueAt σ (At r) = got (σ .plain r 2)

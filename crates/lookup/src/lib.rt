@@ -14,7 +14,7 @@ ghost use mathlib.Core.Bool.{true};
 ghost use Rattle.layout.specs.Layout.{Lent};
 ghost use Rattle.layout.specs.Columns.{columns};
 ghost use Rattle.trie.specs.Entry.{matches};
-ghost use Rattle.lookup.specs.Lookup.{namesKind, entryAt, childAt, pathEnd, hitFrom, hitBelow, getBelow, looked};
+ghost use Rattle.lookup.specs.Lookup.{namesKind, entryAt, childAt, pathEnd, longest, hitFrom, getBelow, looked};
 
 // Where the entry with a hash and a key stands.
 pub enum Hit {
@@ -69,7 +69,7 @@ fn has_key(a: &[u64], z: Shape, r: u64, hash: u64, key: u64) -> bool
 // The entry of a chain that has this hash and this key, from the chain's front on.
 pub fn find(a: &[u64], z: Shape, front: u64, hash: u64, key: u64) -> Hit
     requires { ⌜ Lent z (now a) ⌝ }
-    ensures { λ v. ⌜ v ≡ hitFrom z (columns z (now (a .entry))) hash key (z .entries) front ⌝ }
+    ensures { λ v. ⌜ v ≡ hitFrom z (columns z (now (a .entry))) hash key (longest z) front ⌝ }
 {
     let mut r = front;
     let mut left = z.entries;

@@ -1,3 +1,4 @@
+-- `iter::advance` meets its contract: the next of the chain, or else up. Assumes nothing.
 use Rattle.iter.proofs.WalkLaws.{entry-left, advance-next, advance-climb}
 use native.Mathlib.Omega.{arith}
 use borrow.Author.Needs.{needs}

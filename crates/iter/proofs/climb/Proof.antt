@@ -1,9 +1,10 @@
+-- `iter::climb` meets its contract: a place without a child is given up, and the rest climbs as the whole does. Assumes nothing.
+use Rattle.iter.proofs.WalkLaws.{found-at, found-places, place-small, climb-on, climb-over}
 use lib.ListN.{length-set, length}
 use Prim.Native.Nat.{_≤_}
 use mathlib.Core.Path.{_≡_, refl, sym, ap, _∙_}
 use Rattle.layout.specs.Columns.{columns}
 use Rattle.iter.specs.Met.{waiting, climbed, Spot}
-use Rattle.iter.proofs.WalkLaws.{place-small, climb-found, climb-on, climb-over}
 use native.Mathlib.Omega.{arith}
 use borrow.Author.Needs.{needs}
 use Rattle.iter.proofs.climb.Statement.{statement}
@@ -47,7 +48,7 @@ same-length : tie.Need-same-length Inv-loop μ-loop
 same-length c = length-set (c .before .before .before .before .loop .stack) _ _ ∙ c .before .before .before .before .loop .inv .2 ∙ sym (c .before .before .before .before .before .before .before .pre .1 .0)
 
 returns : tie.Need-returns Inv-loop μ-loop
-returns c = let w = c .before .before .before .before .loop .inv .0 ∙ climb-found _ _ _ _ _ (omega (arith, c .before .before .before .loop-test)) refl (c .before .kid .ensures) (c .if1 .taken) (omega (arith, c .before .before .before .before .loop .inv .1, c .before .before .before .before .loop .inv .2)) in (sym (ap (λ (s : Spot). s .at) w), (sym (ap (λ (s : Spot). s .places) w), (c .before .before .before .before .loop .inv .1, refl)))
+returns c = (found-at _ _ _ _ _ (omega (arith, c .before .before .before .loop-test)) refl (c .before .kid .ensures) _ (c .before .before .before .before .loop .inv .0) (c .if1 .taken), (found-places _ _ _ _ _ (omega (arith, c .before .before .before .loop-test)) refl (c .before .kid .ensures) _ (c .before .before .before .before .loop .inv .0) (c .if1 .taken) _ (omega arith) (omega (arith, c .before .before .before .before .loop .inv .1, c .before .before .before .before .loop .inv .2)), (c .before .before .before .before .loop .inv .1, refl)))
 
 sub-depth : tie.Need-sub-depth Inv-loop μ-loop
 sub-depth c = search needs

@@ -1,3 +1,4 @@
+-- `iter::dig` meets its contract: with each branch that waits, what is still met stays what it was. Assumes nothing.
 use Prim.Native.Nat.{_≤_}
 use mathlib.Core.Path.{_≡_, refl, sym, _∙_}
 use borrow.Author.Tests.{not-true, not-false}

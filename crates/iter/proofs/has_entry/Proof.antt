@@ -1,3 +1,4 @@
+-- `iter::has_entry` meets its contract: a walk without a step left has come to nothing. Assumes nothing.
 use borrow.Author.Tests.{lt-ltb, le-ltb}
 use Rattle.iter.specs.Met.{hasEntry}
 use borrow.Author.Needs.{needs}

@@ -1,3 +1,4 @@
+-- `iter::next` meets its contract: past the entry, and down to the next one. Assumes nothing.
 use Rattle.iter.proofs.WalkLaws.{with-rest}
 use native.Mathlib.Omega.{arith}
 use borrow.Author.Needs.{needs}

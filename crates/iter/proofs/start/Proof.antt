@@ -1,3 +1,4 @@
+-- `iter::start` meets its contract: nothing waits at first. Assumes nothing.
 use mathlib.Core.Path.{_∙_}
 use Rattle.iter.proofs.WalkLaws.{walk-start}
 use native.Mathlib.Omega.{arith}

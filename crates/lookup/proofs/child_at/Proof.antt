@@ -1,3 +1,4 @@
+-- `lookup::child_at` meets its contract: the bitmap is the one that the columns have, and tells the place. Assumes nothing.
 use mathlib.Core.Path.{sym, _∙_}
 use Rattle.layout.proofs.ColumnLaws.{has-low}
 use Rattle.lookup.proofs.FindLaws.{kind-says, child-by}

@@ -1,11 +1,12 @@
+-- `lookup::descend` meets its contract: what is left of the path ends where the whole path ends. Assumes nothing.
+use Rattle.lookup.specs.Lookup.{childAt, pathEnd}
+use mathlib.Core.Path.{ap, _≡_, sym, _∙_}
 use Rattle.lookup.proofs.FindLaws.{path-first, path-stays, path-on, path-over}
 use Prim.Native.Nat.{_-_, _≤_}
-use mathlib.Core.Path.{_≡_, sym, _∙_}
 use borrow.Author.Tests.{not-true, not-false}
 use Rattle.segments.proofs.TableLaws.{below-depths}
 use Rattle.layout.proofs.SizeLaws.{row-is-right}
 use Rattle.layout.specs.Columns.{columns}
-use Rattle.lookup.specs.Lookup.{pathEnd}
 use native.Mathlib.Omega.{arith}
 use borrow.Author.Needs.{needs}
 use Rattle.lookup.proofs.descend.Statement.{statement}
@@ -40,7 +41,7 @@ loop-less : tie.Need-loop-less Inv-loop μ-loop
 loop-less c = search needs
 
 loop-again : tie.Need-loop-again Inv-loop μ-loop
-loop-again c = (c .before .before .before .before .before .before .loop .inv .0 ∙ path-on _ _ _ _ _ _ _ _ (c .before .before .before .before .if1 .taken) (sym (c .before .before .before .is-branch .ensures) ∙ not-false _ (c .before .before .if2 .left)) (c .before .segment-at .ensures) (c .child-at .ensures), omega (arith, c .before .before .before .before .if1 .taken))
+loop-again c = (c .before .before .before .before .before .before .loop .inv .0 ∙ path-on _ _ _ _ _ _ _ (c .before .before .before .before .if1 .taken) (sym (c .before .before .before .is-branch .ensures) ∙ not-false _ (c .before .before .if2 .left)) (c .child-at .ensures ∙ ap (childAt (columns (c .before .before .before .before .before .before .before .before .args .z) (c .before .before .before .before .before .before .before .before .args .a .now)) (c .before .before .before .before .before .before .loop .r)) (c .before .segment-at .ensures)), omega (arith, c .before .before .before .before .if1 .taken))
 
 returns-2 : tie.Need-returns-2 Inv-loop μ-loop
 returns-2 c = sym (c .before .before .loop .inv .0 ∙ path-over _ _ _ _ _ _ (omega (arith, c .if1 .left)))

@@ -1,7 +1,8 @@
+-- `lookup::find` meets its contract: what is left of the search finds what the whole search finds. Assumes nothing.
 use mathlib.Core.Path.{_≡_, refl, sym, _∙_}
 use borrow.Author.Tests.{not-true, not-false}
 use Rattle.layout.specs.Columns.{columns}
-use Rattle.lookup.specs.Lookup.{hitFrom}
+use Rattle.lookup.specs.Lookup.{longest, hitFrom}
 use Rattle.lookup.proofs.FindLaws.{hit-ends, search-here, search-on, search-over}
 use native.Mathlib.Omega.{arith}
 use borrow.Author.Needs.{needs}
@@ -10,7 +11,7 @@ use Rattle.lookup.proofs.find.Tie as tie
 
 abbrev Inv-loop : tie.InvT-loop
 Inv-loop a z front hash key r₀ left₀ r left =
-    (hitFrom z (columns z a) hash key (z .entries) front ≡ hitFrom z (columns z a) hash key left r)
+    (hitFrom z (columns z a) hash key (longest z) front ≡ hitFrom z (columns z a) hash key left r)
 
 abbrev μ-loop : tie.MeasureT-loop
 μ-loop a z front hash key r₀ left₀ r left = left

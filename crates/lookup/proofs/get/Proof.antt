@@ -1,3 +1,4 @@
+-- `lookup::get` meets its contract: a hit is an entry, whose value is read. Assumes nothing.
 use mathlib.Core.Path.{sym, ap, _∙_}
 use Rattle.trie.specs.Entry.{got}
 use Rattle.lookup.proofs.FindLaws.{has-part, hit-names, entry-word, value-below}

@@ -1,3 +1,4 @@
+-- `lookup::has_key` meets its contract: the hash is tested first, and both words are those of the columns. Assumes nothing.
 use Rattle.lookup.proofs.FindLaws.{hash-same, hash-other, has-part}
 use native.Mathlib.Omega.{arith}
 use Rattle.lookup.proofs.has_key.Statement.{statement}

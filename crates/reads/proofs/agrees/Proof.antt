@@ -1,3 +1,4 @@
+-- `reads::agrees` meets its contract: what is still to be compared decides as the whole does. Assumes nothing.
 use Rattle.reads.proofs.WriteLaws.{agree-start, every-stop, every-next, every-none}
 use mathlib.Core.Path.{_≡_, sym, _∙_}
 use borrow.Author.Tests.{not-true, not-false}

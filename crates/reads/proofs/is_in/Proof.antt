@@ -1,3 +1,4 @@
+-- `reads::is_in` meets its contract: the words that are read are the entry's. Assumes nothing.
 use mathlib.Core.Path.{refl, sym, ap, _∙_}
 use Rattle.lookup.specs.Lookup.{looked}
 use Rattle.lookup.proofs.FindLaws.{has-part}

@@ -1,3 +1,4 @@
+-- `reads::list` meets its contract: to the first entry, past those before the place, and then written. Assumes nothing.
 use Rattle.reads.proofs.WriteLaws.{listed-whole}
 use borrow.Author.Needs.{needs}
 use Rattle.reads.proofs.list.Statement.{statement}

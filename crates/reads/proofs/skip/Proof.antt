@@ -1,3 +1,4 @@
+-- `reads::skip` meets its contract: each turn takes one entry off those still to come. Assumes nothing.
 use mathlib.Core.Path.{_≡_, refl, sym, _∙_}
 use borrow.Author.Tests.{not-true, not-false}
 use Rattle.iter.specs.Met.{still, Settled}

@@ -1,3 +1,4 @@
+-- `reads::write` meets its contract: what is written and what is still to come make up the whole. Assumes nothing.
 use lib.ListN.{length-set, length}
 use Prim.Native.Nat.{_+_, _-_}
 use Rattle.reads.proofs.WriteLaws.{stored-length, Rest, rest-start, rest-next, rest-end, part-is}

@@ -1,3 +1,4 @@
+-- `shelf::equal_in` meets its contract: the first edition is tested before the second. Assumes nothing.
 use mathlib.Core.Path.{sym, _∙_}
 use borrow.Author.Tests.{not-true, not-false}
 use Rattle.cells.proofs.SlotLaws.{held-says}

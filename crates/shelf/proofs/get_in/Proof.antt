@@ -1,3 +1,4 @@
+-- `shelf::get_in` meets its contract: only a slot that is there is read, and the value is the one below its root. Assumes nothing.
 use mathlib.Core.Path.{sym, ap, _∙_}
 use Rattle.cells.proofs.SlotLaws.{held-says}
 use Rattle.shelf.proofs.LookLaws.{get-by, get-not-held}

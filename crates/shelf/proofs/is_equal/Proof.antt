@@ -1,3 +1,4 @@
+-- `shelf::is_equal` meets its contract: the roots first, then the sizes, then the entries. Assumes nothing.
 use mathlib.Core.Path.{sym, _∙_}
 use Rattle.shelf.proofs.LookLaws.{same-root, other-size, same-by}
 use native.Mathlib.Omega.{arith}

@@ -1,3 +1,4 @@
+-- `shelf::list_held` meets its contract: its tests are those of the definition, in the same order. Assumes nothing.
 use mathlib.Core.Path.{sym, _∙_}
 use Rattle.shelf.proofs.LookLaws.{list-beyond, list-end, list-short, list-by}
 use native.Mathlib.Omega.{arith}

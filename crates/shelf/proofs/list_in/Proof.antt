@@ -1,3 +1,4 @@
+-- `shelf::list_in` meets its contract: only a slot that is held is listed. Assumes nothing.
 use mathlib.Core.Path.{sym, _∙_}
 use Rattle.cells.proofs.SlotLaws.{held-says}
 use Rattle.shelf.proofs.LookLaws.{list-held, list-not-held}

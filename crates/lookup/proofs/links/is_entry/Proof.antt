@@ -1,3 +1,4 @@
+-- `lookup::links::is_entry` meets its contract: the last bit is the kind. Assumes nothing.
 use borrow.Author.Tests.{eq-eqb, ne-eqb}
 use Rattle.lookup.specs.Lookup.{namesKind}
 use borrow.Author.Needs.{needs}

@@ -1,3 +1,4 @@
+-- `lookup::links::kid` meets its contract: only a reference that the cell holds is read. Assumes nothing.
 use mathlib.Core.Path.{sym, _∙_}
 use Rattle.layout.proofs.ColumnLaws.{has-kid, refs-few, kid-in}
 use Rattle.lookup.proofs.FindLaws.{kid-out}

@@ -1,3 +1,4 @@
+-- `lookup::links::kids` meets its contract: none where no cell is named, and else by the kind. Assumes nothing.
 use borrow.Author.Tests.{not-true, not-false, eq-eqb, ne-eqb}
 use mathlib.Core.Path.{sym, _∙_}
 use Rattle.layout.specs.Columns.{refs, kidsOf}

@@ -1,0 +1,118 @@
+//! The arena, laid out by hand: degree 16, 38 branch cells, 9 entry cells, 9 slots. docs/ARENA.md shows it cell by
+//! cell. The editions, by slot:
+//!
+//! 0. K5 of the shelf table, with the chain E, D
+//! 1. K4, which shares with K5 all but its root
+//! 2. K5 once more, with the same root
+//! 3. the entries of K5 with the chain D, E
+//! 4. K1: A alone, below a root branch
+//! 5. A alone with another value
+//! 6. K9: the root is the entry B
+//! 7. an edition without entries
+//! 8. no edition
+use shelf::InUse;
+ghost use Prim.Native.Nat.{_≤_};
+
+pub const WORDS: usize = 815;
+
+pub const EDITIONS: u64 = 9;
+
+// The words of a slot or a cell, which has `width`; those behind the given ones stay as they are. Answers where the next
+// begins.
+fn lay(a: &mut [u64], at: usize, width: usize, words: &[u64]) -> usize {
+    let mut i = at;
+    let mut k = 0;
+    while k < width {
+        if a.len() <= i {
+            return i;
+        }
+        if k < words.len() {
+            a[i] = words[k];
+        }
+        i += 1;
+        k += 1;
+    }
+    i
+}
+
+fn slot(a: &mut [u64], at: usize, words: &[u64]) -> usize {
+    lay(a, at, 3, words)
+}
+
+fn branch(a: &mut [u64], at: usize, words: &[u64]) -> usize {
+    lay(a, at, 19, words)
+}
+
+fn entry(a: &mut [u64], at: usize, words: &[u64]) -> usize {
+    lay(a, at, 6, words)
+}
+
+// The branches at depths 1 to 15 on the path of D and E, each the only one to name the next; `first` is the reference of
+// the first of them.
+fn path(a: &mut [u64], from: usize, first: u64, chain: u64) -> usize
+    requires { ⌜ first ≤ 40 ⌝ }
+{
+    let mut at = from;
+    let mut depth = 1;
+    while depth < 15 {
+        at = branch(a, at, &[1, depth, 1, first + 2 * depth]);
+        depth += 1;
+    }
+    branch(a, at, &[1, 15, 128, chain])
+}
+
+fn slots(a: &mut [u64], from: usize) -> usize {
+    let mut at = slot(a, from, &[1, 2, 5]);
+    at = slot(a, at, &[1, 36, 4]);
+    at = slot(a, at, &[1, 2, 5]);
+    at = slot(a, at, &[1, 38, 5]);
+    at = slot(a, at, &[1, 70, 1]);
+    at = slot(a, at, &[1, 72, 1]);
+    at = slot(a, at, &[1, 5, 1]);
+    at = slot(a, at, &[1, 0, 0]);
+    slot(a, at, &[0, 0, 0])
+}
+
+fn branches(a: &mut [u64], from: usize) -> usize {
+    let mut at = branch(a, from, &[2, 0, 324, 7, 4, 6]);
+    at = branch(a, at, &[3, 1, 6, 5, 3]);
+    at = path(a, at, 6, 11);
+    at = branch(a, at, &[1, 0, 324, 7, 4, 9]);
+    at = branch(a, at, &[1, 0, 324, 7, 4, 40]);
+    at = path(a, at, 40, 15);
+    at = branch(a, at, &[1, 0, 64, 3]);
+    at = branch(a, at, &[1, 0, 64, 17]);
+    at = branch(a, at, &[0, 76]);
+    branch(a, at, &[0, 0])
+}
+
+fn entries(a: &mut [u64], from: usize) {
+    let mut at = entry(a, from, &[2, 1, 0, 0x26, 1, 10]);
+    at = entry(a, at, &[2, 1, 0, 0x16, 2, 20]);
+    at = entry(a, at, &[3, 1, 0, 0x42, 3, 30]);
+    at = entry(a, at, &[2, 1, 0, 0x7000000000000008, 4, 40]);
+    at = entry(a, at, &[1, 2, 9, 0x7000000000000008, 5, 50]);
+    at = entry(a, at, &[1, 1, 0, 0x7000000000000008, 5, 50]);
+    at = entry(a, at, &[1, 2, 13, 0x7000000000000008, 4, 40]);
+    at = entry(a, at, &[1, 1, 0, 0x26, 1, 11]);
+    entry(a, at, &[0, 0]);
+}
+
+pub fn lay_out(a: &mut [u64]) {
+    let mut at = lay(a, 0, 12, &[1, 16, 38, 9, 9, 12, 39, 761, 74, 19, 36, 8]);
+    at = slots(a, at);
+    at = branches(a, at);
+    entries(a, at);
+}
+
+pub fn show(a: &[u64]) {
+    print::say(b"Cells in use");
+    match shelf::in_use(a) {
+        InUse::Cells { branches, entries } => {
+            print::decimal(b" ", branches);
+            print::decimal(b" ", entries);
+        }
+        InUse::Refused(why) => print::decimal(b" no. ", why.number()),
+    }
+    print::say(b"\n");
+}
