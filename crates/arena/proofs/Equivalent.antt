@@ -4,7 +4,7 @@
 use Prim.Native.Nat.{ℕ, _+_, _<_}
 use mathlib.Core.Path.{_≡_, sym, ap, _∙_}
 use mathlib.Core.Bool.{Bool, true, false, cond, _&&_}
-use mathlib.Core.Logic.{_⊎_, ⊎-elim, _↔_}
+use mathlib.Core.Logic.{_⊎_, inl, inr, ⊎-elim, _↔_}
 use mathlib.Core.List.{List}
 use native.Mathlib.Omega.{arith}
 use borrow.Author.Tests.{eq-eqb, ne-eqb, lt-ltb, le-ltb, ltb-true, ltb-false}
@@ -254,3 +254,8 @@ local-sound a l =
 
 pub sound-iff : (a : List ℕ) → Sound a ↔ LocallySound a
 sound-iff a = (sound-local a, local-sound a)
+
+-- a slot of a sound arena that is held is not a free one, so it has a map
+pub held-slot : (z : Shape) (σ : State) (i : ℕ) → σ .held i ≡ 1 → FreeSlot σ i ⊎ HeldSlot z σ i → HeldSlot z σ i
+held-slot z σ i e (inl f) = absurd (omega (arith, f .not-held))
+held-slot z σ i e (inr k) = k

@@ -2,3 +2,4 @@ pub mod Shows
 pub mod Sound
 pub mod Local
 pub mod Steps
+pub mod Holds

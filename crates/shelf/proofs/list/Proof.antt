@@ -1,11 +1,11 @@
 -- `shelf::list` meets its contract: the header is read first, and the rest follows from the outcome. Assumes nothing.
 use mathlib.Core.Path.{sym, _∙_}
-use Rattle.shelf.proofs.EditionLaws.{header-right, header-wrong}
 use Rattle.layout.proofs.HeaderLaws.{header-says, header-lent}
-use Rattle.shelf.proofs.LookLaws.{lists}
 use borrow.Author.Needs.{needs}
 use Rattle.shelf.proofs.list.Statement.{statement}
 use Rattle.shelf.proofs.list.Tie as tie
+use Rattle.replies.proofs.AnswerLaws.{header-right, header-wrong}
+use Rattle.looks.proofs.LookLaws.{lists}
 
 read-requires : tie.Need-read-requires
 read-requires c κs = search needs
@@ -13,8 +13,8 @@ read-requires c κs = search needs
 enum-known-z : tie.Need-enum-known-z
 enum-known-z c = search needs
 
-list-in-requires : tie.Need-list-in-requires
-list-in-requires c κs = header-lent _ _ (header-says _ _ .0 (sym (c .before .before .before .before .read .ensures) ∙ c .before .before .z .given .1))
+list-requires : tie.Need-list-requires
+list-requires c κs = header-lent _ _ (header-says _ _ .0 (sym (c .before .before .before .before .read .ensures) ∙ c .before .before .z .given .1))
 
 enum-told : tie.Need-enum-told
 enum-told c = search needs
@@ -23,7 +23,7 @@ same-length : tie.Need-same-length
 same-length c = search needs
 
 returns : tie.Need-returns
-returns c = lists _ _ _ _ _ _ (c .before .before .list-in .ensures ∙ sym (header-right _ _ _ _ (sym (c .before .before .before .before .before .before .before .read .ensures) ∙ c .before .before .before .before .before .z .given .1)))
+returns c = lists _ _ _ _ _ _ (c .before .before .list .ensures ∙ sym (header-right _ _ _ _ (sym (c .before .before .before .before .before .before .before .read .ensures) ∙ c .before .before .before .before .before .z .given .1)))
 
 returns-2 : tie.Need-returns-2
 returns-2 c = lists _ _ _ _ _ _ (sym (header-wrong _ _ _ (sym (c .before .before .read .ensures) ∙ c .enum-told .given .1)))
@@ -31,4 +31,4 @@ returns-2 c = lists _ _ _ _ _ _ (sym (header-wrong _ _ _ (sym (c .before .before
 pub list-spec : {M : Type 1} → statement M
 list-spec =
     tie.close
-    (tie.spec read-requires enum-known-z list-in-requires enum-told same-length returns returns-2)
+    (tie.spec read-requires enum-known-z list-requires enum-told same-length returns returns-2)

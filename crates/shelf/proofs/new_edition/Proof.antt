@@ -1,11 +1,12 @@
 -- `shelf::new_edition` meets its contract: the header is read first, and the rest of the contract follows from the
 -- outcome. Assumes nothing.
-use Rattle.shelf.proofs.EditionLaws.{header-right, header-wrong, makes-new}
 use Rattle.layout.proofs.HeaderLaws.{header-says, header-lent}
 use mathlib.Core.Path.{sym, _∙_}
 use borrow.Author.Needs.{needs}
 use Rattle.shelf.proofs.new_edition.Statement.{statement}
 use Rattle.shelf.proofs.new_edition.Tie as tie
+use Rattle.replies.proofs.AnswerLaws.{header-right, header-wrong}
+use Rattle.makes.proofs.EditionLaws.{makes-new}
 
 read-requires : tie.Need-read-requires
 read-requires c κs = search needs
@@ -13,8 +14,8 @@ read-requires c κs = search needs
 enum-known-z : tie.Need-enum-known-z
 enum-known-z c = search needs
 
-new-edition-in-requires : tie.Need-new-edition-in-requires
-new-edition-in-requires c κs = header-lent _ _ (header-says _ _ .0 (sym (c .before .before .before .before .read .ensures) ∙ c .before .before .z .given .1))
+new-edition-requires : tie.Need-new-edition-requires
+new-edition-requires c κs = header-lent _ _ (header-says _ _ .0 (sym (c .before .before .before .before .read .ensures) ∙ c .before .before .z .given .1))
 
 enum-told : tie.Need-enum-told
 enum-told c = search needs
@@ -23,7 +24,7 @@ same-length : tie.Need-same-length
 same-length c = search needs
 
 returns : tie.Need-returns
-returns c = makes-new _ _ _ (c .before .before .new-edition-in .ensures ∙ sym (header-right _ _ _ _ (sym (c .before .before .before .before .before .before .before .read .ensures) ∙ c .before .before .before .before .before .z .given .1)))
+returns c = makes-new _ _ _ (c .before .before .new-edition .ensures ∙ sym (header-right _ _ _ _ (sym (c .before .before .before .before .before .before .before .read .ensures) ∙ c .before .before .before .before .before .z .given .1)))
 
 same-length-2 : tie.Need-same-length-2
 same-length-2 c = search needs
@@ -37,7 +38,7 @@ new-edition-spec =
     (tie.spec
     read-requires
     enum-known-z
-    new-edition-in-requires
+    new-edition-requires
     enum-told
     same-length
     returns

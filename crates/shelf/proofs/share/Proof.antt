@@ -1,11 +1,12 @@
 -- `shelf::share` meets its contract: the header is read first, and the rest of the contract follows from the outcome.
 -- Assumes nothing.
-use Rattle.shelf.proofs.EditionLaws.{header-right, header-wrong, shares}
 use Rattle.layout.proofs.HeaderLaws.{header-says, header-lent}
 use mathlib.Core.Path.{sym, _∙_}
 use borrow.Author.Needs.{needs}
 use Rattle.shelf.proofs.share.Statement.{statement}
 use Rattle.shelf.proofs.share.Tie as tie
+use Rattle.replies.proofs.AnswerLaws.{header-right, header-wrong}
+use Rattle.makes.proofs.EditionLaws.{shares}
 
 read-requires : tie.Need-read-requires
 read-requires c κs = search needs
@@ -13,8 +14,8 @@ read-requires c κs = search needs
 enum-known-z : tie.Need-enum-known-z
 enum-known-z c = search needs
 
-share-in-requires : tie.Need-share-in-requires
-share-in-requires c κs = header-lent _ _ (header-says _ _ .0 (sym (c .before .before .before .before .read .ensures) ∙ c .before .before .z .given .1))
+share-requires : tie.Need-share-requires
+share-requires c κs = header-lent _ _ (header-says _ _ .0 (sym (c .before .before .before .before .read .ensures) ∙ c .before .before .z .given .1))
 
 enum-told : tie.Need-enum-told
 enum-told c = search needs
@@ -23,7 +24,7 @@ same-length : tie.Need-same-length
 same-length c = search needs
 
 returns : tie.Need-returns
-returns c = shares _ _ _ _ (c .before .before .share-in .ensures ∙ sym (header-right _ _ _ _ (sym (c .before .before .before .before .before .before .before .read .ensures) ∙ c .before .before .before .before .before .z .given .1)))
+returns c = shares _ _ _ _ (c .before .before .share .ensures ∙ sym (header-right _ _ _ _ (sym (c .before .before .before .before .before .before .before .read .ensures) ∙ c .before .before .before .before .before .z .given .1)))
 
 same-length-2 : tie.Need-same-length-2
 same-length-2 c = search needs
@@ -37,7 +38,7 @@ share-spec =
     (tie.spec
     read-requires
     enum-known-z
-    share-in-requires
+    share-requires
     enum-told
     same-length
     returns

@@ -1,0 +1,3 @@
+pub mod ReadLaws
+pub mod LookLaws
+pub mod NumberLaws

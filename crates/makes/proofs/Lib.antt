@@ -1,0 +1,4 @@
+pub mod PutLaws
+pub mod FormatLaws
+pub mod EditionLaws
+pub mod NumberLaws

@@ -1,0 +1,40 @@
+-- A refusal's number is not 0, so an answer tells whether the call was done, and its values. And the two cases of a header.
+use Rattle.layout.specs.declared.Shape.{Shape}
+use Rattle.layout.specs.declared.Heading.{Heading}
+use Rattle.layout.specs.declared.Heading.the-variants.{Right, Wrong}
+use Rattle.replies.specs.Outcomes.{onHeader}
+use Prim.Native.Nat.{ℕ, _<_}
+use mathlib.Core.Path.{_≡_, ap}
+use native.Mathlib.Omega.{arith}
+use Rattle.replies.specs.declared.Refusal.{Refusal}
+use Rattle.replies.specs.declared.Refusal.the-variants.{BadDegree, BadSizes, SliceTooShort, Damaged, NoSuchEdition, Absent, NoSlot, NoBranchCells, NoEntryCells, OutputTooShort, BeyondTheEnd, WorkTooShort}
+use Rattle.replies.specs.Answers.{Answer, numberOf, refused, done}
+
+number-some : (r : Refusal) → 0 < numberOf r
+number-some BadDegree = omega arith
+number-some BadSizes = omega arith
+number-some SliceTooShort = omega arith
+number-some Damaged = omega arith
+number-some NoSuchEdition = omega arith
+number-some Absent = omega arith
+number-some NoSlot = omega arith
+number-some NoBranchCells = omega arith
+number-some NoEntryCells = omega arith
+number-some OutputTooShort = omega arith
+number-some BeyondTheEnd = omega arith
+number-some WorkTooShort = omega arith
+
+pub refused-not-done : (r : Refusal) (x y : ℕ) → refused r ≡ done x y → ⊥
+refused-not-done r x y e = omega (arith, number-some r, ap (λ (w : Answer). w .number) e)
+
+pub done-value : (x y v w : ℕ) → done x y ≡ done v w → x ≡ v
+done-value x y v w e = ap (λ (u : Answer). u .a) e
+
+-- THE CASES OF A HEADER
+pub header-right : {A : Type 0} (y : Heading) (x : A) (f : Shape → A) (z : Shape) → y ≡ Right z → onHeader y x f ≡ f z
+unfolding onHeader
+header-right y x f z e = rw e
+
+pub header-wrong : {A : Type 0} (y : Heading) (x : A) (f : Shape → A) → y ≡ Wrong → onHeader y x f ≡ x
+unfolding onHeader
+header-wrong y x f e = rw e

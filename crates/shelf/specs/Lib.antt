@@ -1,3 +1,0 @@
-pub mod Answers
-pub mod Calls
-pub mod Contracts
