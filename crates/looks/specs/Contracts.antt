@@ -8,8 +8,6 @@ use Rattle.trie.specs.Trie.{Map, size, get, listing, equal}
 use Rattle.layout.specs.declared.Shape.{Shape}
 use Rattle.layout.specs.Header.{Header}
 use Rattle.arena.specs.Sound.{Sound, reachedOf}
-use Rattle.replies.specs.declared.Formatted.the-variants as F
-use Rattle.replies.specs.declared.Made.the-variants as M
 use Rattle.replies.specs.declared.Counted.{Counted}
 use Rattle.replies.specs.declared.Counted.the-variants as C
 use Rattle.replies.specs.declared.Found.{Found}

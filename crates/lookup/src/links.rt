@@ -6,16 +6,23 @@ ghost use Rattle.layout.specs.Layout.{Lent};
 ghost use Rattle.layout.specs.Columns.{columns, refs};
 ghost use Rattle.lookup.specs.Lookup.{namesKind};
 
+// Whether a reference names a cell of this kind: 0 is a branch, 1 an entry.
+fn is_kind(z: Shape, kind: u64, r: u64) -> bool
+    ensures { λ b. ⌜ b ≡ namesKind z kind r ⌝ }
+{
+    r % 2 == kind && words::is_cell(z, r)
+}
+
 pub fn is_branch(z: Shape, r: u64) -> bool
     ensures { λ b. ⌜ b ≡ namesKind z 0 r ⌝ }
 {
-    r % 2 == 0 && words::is_cell(z, r)
+    is_kind(z, 0, r)
 }
 
 pub fn is_entry(z: Shape, r: u64) -> bool
     ensures { λ b. ⌜ b ≡ namesKind z 1 r ⌝ }
 {
-    r % 2 == 1 && words::is_cell(z, r)
+    is_kind(z, 1, r)
 }
 
 // How many references the cell holds: a branch as many as the degree, an entry its next.

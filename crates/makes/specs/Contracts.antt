@@ -6,14 +6,11 @@ use mathlib.Core.List.{List}
 use Rattle.trie.specs.Trie.{Map, empty}
 use Rattle.layout.specs.declared.Shape.{Shape}
 use Rattle.layout.specs.Header.{Header}
-use Rattle.arena.specs.Shows.{Edition}
 use Rattle.arena.specs.Sound.{Sound}
 use Rattle.replies.specs.declared.Formatted.{Formatted}
 use Rattle.replies.specs.declared.Formatted.the-variants as F
 use Rattle.replies.specs.declared.Made.{Made}
 use Rattle.replies.specs.declared.Made.the-variants as M
-use Rattle.replies.specs.declared.Counted.the-variants as C
-use Rattle.replies.specs.declared.InUse.the-variants as U
 use Rattle.replies.specs.Answers.{formatted, made}
 use Rattle.replies.specs.Outcomes.{leaves}
 use Rattle.arena.specs.Holds.{Holds, Keeps}

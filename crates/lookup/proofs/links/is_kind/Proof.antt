@@ -1,9 +1,9 @@
--- `lookup::links::is_branch` meets its contract: the last bit is the kind. Assumes nothing.
+-- `lookup::links::is_kind` meets its contract: the last bit tells the kind. Assumes nothing.
 use borrow.Author.Tests.{eq-eqb, ne-eqb}
 use Rattle.lookup.specs.Lookup.{namesKind}
 use borrow.Author.Needs.{needs}
-use Rattle.lookup.proofs.links.is_branch.Statement.{statement}
-use Rattle.lookup.proofs.links.is_branch.Tie as tie
+use Rattle.lookup.proofs.links.is_kind.Statement.{statement}
+use Rattle.lookup.proofs.links.is_kind.Tie as tie
 
 is-cell-requires : tie.Need-is-cell-requires
 is-cell-requires c κs = search needs
@@ -16,5 +16,5 @@ returns-2 : tie.Need-returns-2
 unfolding namesKind
 returns-2 c = rw (ne-eqb _ _ (c .if1 .left))
 
-pub is-branch-spec : {M : Type 1} → statement M
-is-branch-spec = tie.close (tie.spec is-cell-requires returns returns-2)
+pub is-kind-spec : {M : Type 1} → statement M
+is-kind-spec = tie.close (tie.spec is-cell-requires returns returns-2)
