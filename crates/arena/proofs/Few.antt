@@ -165,7 +165,7 @@ module _ (σ : State) where
     mutual
       unfolding total Shows Canon AllKids Asc
 
-      node-once : (m : Node ℕ) (d : ℕ) (path : List ℕ) (t r : ℕ) → Canon seg W Some d path m → Shows σ m t r → inNode q m ≤ 1
+      pub node-once : (m : Node ℕ) (d : ℕ) (path : List ℕ) (t r : ℕ) → Canon seg W Some d path m → Shows σ m t r → inNode q m ≤ 1
       node-once (leaf xs) d path t r c h = chain-once q xs r (leaf-shows xs t r h)
       node-once (branch b ks) zero path t r c h = absurd c
       node-once (branch b ks) (suc d) path t r c h =
