@@ -20,7 +20,7 @@ use Rattle.trie.specs.Entry.{Entry}
 use Rattle.layout.specs.declared.Shape.{Shape}
 use Rattle.lookup.specs.Lookup.{namesKind, entryAt}
 use Rattle.iter.specs.declared.Iter.{Iter}
-use Rattle.iter.specs.Met.{onward, first, placeOf, waits, waiting, Spot, spot, climbed, behindEntry, enters, metFrom, still, hasEntry, Settled}
+use Rattle.iter.specs.Met.{onward, firstChild, placeOf, waits, waiting, Spot, spot, climbed, behindEntry, enters, metFrom, still, hasEntry, Settled}
 
 -- THE STACK
 pub waiting-length : (stack : List ℕ) (d : ℕ) → length (waiting stack d) ≡ d
@@ -76,7 +76,7 @@ module _ (z : Shape) (σ : State) (n r : ℕ) (ps : List ℕ) where
   step-entry e = rw e
 
   pub met-enter : namesKind z 0 r ≡ true → length ps < 65
-      → metFrom z σ (suc n) r ps ≡ metFrom z σ n (first σ r) (placeOf r 1 ∷ ps)
+      → metFrom z σ (suc n) r ps ≡ metFrom z σ n (firstChild σ r) (placeOf r 1 ∷ ps)
   unfolding metFrom enters
   met-enter e l = rw (branch-no-entry z r e, lt-ltb (length ps) 65 l, e)
 
@@ -120,14 +120,14 @@ waiting-top stack (suc d) l = let k : suc d - 1 ≡ d = omega arith in rw k (unf
 
 module _ (z : Shape) (σ : State) (stack : List ℕ) where
   -- downwards: the branch waits from its second child on
-  pub dig-on : (n r d c : ℕ) → 0 < n → d < 65 → length stack ≡ 65 → namesKind z 0 r ≡ true → c ≡ first σ r
+  pub dig-on : (n r d c : ℕ) → 0 < n → d < 65 → length stack ≡ 65 → namesKind z 0 r ≡ true → c ≡ firstChild σ r
       → metFrom z σ n r (waiting stack d) ≡ metFrom z σ (n - 1) c (waiting (set stack d (r * 128 + 1)) (d + 1))
   dig-on zero r d c l ld ls e q = absurd (omega arith)
   dig-on (suc n) r d c l ld ls e q =
       let k : n ≡ suc n - 1 = omega arith in
       let m : suc d ≡ d + 1 = omega arith in
       met-enter z σ n r (waiting stack d) e (rw (waiting-length stack d) ld)
-      ∙ ap₂ (λ (i : ℕ) (ps : List ℕ). metFrom z σ i (first σ r) ps) k
+      ∙ ap₂ (λ (i : ℕ) (ps : List ℕ). metFrom z σ i (firstChild σ r) ps) k
       (sym (waiting-push stack d (r * 128 + 1) (omega arith)) ∙ ap (waiting (set stack d (r * 128 + 1))) m)
       ∙ ap (λ (x : ℕ). metFrom z σ (suc n - 1) x (waiting (set stack d (r * 128 + 1)) (d + 1))) (sym q)
 

@@ -47,8 +47,8 @@ unfoldable pub behindEntry : State → ℕ → List ℕ → Spot
 behindEntry σ r ps = cond (eqb (σ .kid r 0) 0) (climbed σ ps) (spot (σ .kid r 0) ps)
 
 -- a branch's first child
-abbrev pub first : State → ℕ → ℕ
-first σ r = σ .kid r 0
+abbrev pub firstChild : State → ℕ → ℕ
+firstChild σ r = σ .kid r 0
 
 -- whether the walk enters r: a branch, while there is a place for it
 unfoldable pub enters : Shape → ℕ → ℕ → Bool
@@ -60,7 +60,7 @@ metFrom z σ zero r ps = []
 metFrom z σ (suc n) r ps =
     cond (namesKind z 1 r)
     (entryAt σ r ∷ (let s = behindEntry σ r ps in metFrom z σ n (s .at) (s .places)))
-    (cond (enters z r (length ps)) (metFrom z σ n (first σ r) (placeOf r 1 ∷ ps)) [])
+    (cond (enters z r (length ps)) (metFrom z σ n (firstChild σ r) (placeOf r 1 ∷ ps)) [])
 
 -- a step for each cell that an arena of this shape has
 abbrev pub visits : Shape → ℕ

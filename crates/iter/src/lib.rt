@@ -18,8 +18,9 @@ ghost use Rattle.iter.specs.Met.{waiting, climbed, met, still, hasEntry,
 // One place for each branch on a path, of which there are 64 at most, and one to spare.
 pub const PLACES: usize = 65;
 
-// A place is a branch that waits and its next child, as one number: no branch has so many children.
-const CHILDREN: u64 = 128;
+// A place is a branch that waits and its next child, as one number: the branch times this base, and the child. No branch
+// has so many children.
+const BASE: u64 = 128;
 
 // Where a walk is: the cell that it looks at next, how many places of its stack are taken, and how many cells it may
 // still visit.
@@ -46,7 +47,7 @@ fn dig(a: &[u64], z: Shape, stack: &mut [u64], it: Iter) -> Iter
         if !links::is_branch(z, r) {
             return Iter { at: r, depth, left };
         }
-        stack[depth] = r * CHILDREN + 1;
+        stack[depth] = r * BASE + 1;
         depth += 1;
         left -= 1;
         r = links::kid(a, z, r, 0);
@@ -65,7 +66,7 @@ fn climb(a: &[u64], z: Shape, stack: &mut [u64], taken: usize, left: u64) -> Ite
     let mut depth = taken;
     while depth > 0 {
         let place = stack[depth - 1];
-        let r = links::kid(a, z, place / CHILDREN, place % CHILDREN);
+        let r = links::kid(a, z, place / BASE, place % BASE);
         if r != 0 {
             stack[depth - 1] = place + 1;
             return Iter { at: r, depth, left };

@@ -74,6 +74,7 @@ sameEntries z a e f =
     cond (eqb (rootWord z a e) (rootWord z a f)) true
     (cond (eqb (sizeWord z a e) (sizeWord z a f)) (agree z a (rootWord z a e) (rootWord z a f)) false)
 
+-- 1 for equal and 0 for not
 abbrev pub told : Bool → Answer
 told b = done (cond b 1 0) 0
 

@@ -23,16 +23,28 @@ fn with(a: &mut [u64], label: &[u8], at: usize, word: u64) {
     }
 }
 
-pub fn show(a: &mut [u64]) {
-    print::say(b"With one word changed\n");
+fn header_and_slot(a: &mut [u64]) {
     with(a, b"  none", 0, 1);
     with(a, b"  layout 2", 0, 2);
     with(a, b"  edition 0 not held", 12, 7);
     with(a, b"  the root names no cell", 13, 78);
+}
+
+fn root_branch(a: &mut [u64]) {
     with(a, b"  the root names itself", 42, 2);
     with(a, b"  its bitmap is full", 41, u64::MAX);
+    with(a, b"  its second child is missing", 43, 0);
+}
+
+fn chain_and_path(a: &mut [u64]) {
     with(a, b"  a chain without end", 787, 11);
     with(a, b"  a chain that leads to a branch", 787, 2);
     with(a, b"  a path without end", 80, 6);
-    with(a, b"  a child is missing", 43, 0);
+}
+
+pub fn show(a: &mut [u64]) {
+    print::say(b"With one word changed\n");
+    header_and_slot(a);
+    root_branch(a);
+    chain_and_path(a);
 }

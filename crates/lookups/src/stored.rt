@@ -61,24 +61,34 @@ fn path(a: &mut [u64], from: usize, first: u64, chain: u64) -> usize
     branch(a, at, &[1, 15, 128, chain])
 }
 
-fn slots(a: &mut [u64], from: usize) -> usize {
+// K5, K4, K5 once more, and K5 with the chain D, E.
+fn large_editions(a: &mut [u64], from: usize) -> usize {
     let mut at = slot(a, from, &[1, 2, 5]);
     at = slot(a, at, &[1, 36, 4]);
     at = slot(a, at, &[1, 2, 5]);
-    at = slot(a, at, &[1, 38, 5]);
-    at = slot(a, at, &[1, 70, 1]);
+    slot(a, at, &[1, 38, 5])
+}
+
+// A twice, B, no entry, and a slot that is not held.
+fn small_editions(a: &mut [u64], from: usize) -> usize {
+    let mut at = slot(a, from, &[1, 70, 1]);
     at = slot(a, at, &[1, 72, 1]);
     at = slot(a, at, &[1, 5, 1]);
     at = slot(a, at, &[1, 0, 0]);
     slot(a, at, &[0, 0, 0])
 }
 
-fn branches(a: &mut [u64], from: usize) -> usize {
+// The branches of K5, then the root of K4.
+fn first_branches(a: &mut [u64], from: usize) -> usize {
     let mut at = branch(a, from, &[2, 0, 324, 7, 4, 6]);
     at = branch(a, at, &[3, 1, 6, 5, 3]);
     at = path(a, at, 6, 11);
-    at = branch(a, at, &[1, 0, 324, 7, 4, 9]);
-    at = branch(a, at, &[1, 0, 324, 7, 4, 40]);
+    branch(a, at, &[1, 0, 324, 7, 4, 9])
+}
+
+// The root of edition 3 and its own path, the roots over A alone, and the free cells.
+fn other_branches(a: &mut [u64], from: usize) -> usize {
+    let mut at = branch(a, from, &[1, 0, 324, 7, 4, 40]);
     at = path(a, at, 40, 15);
     at = branch(a, at, &[1, 0, 64, 3]);
     at = branch(a, at, &[1, 0, 64, 17]);
@@ -86,13 +96,18 @@ fn branches(a: &mut [u64], from: usize) -> usize {
     branch(a, at, &[0, 0])
 }
 
-fn entries(a: &mut [u64], from: usize) {
+// A to E, as the shelf table has them.
+fn first_entries(a: &mut [u64], from: usize) -> usize {
     let mut at = entry(a, from, &[2, 1, 0, 0x26, 1, 10]);
     at = entry(a, at, &[2, 1, 0, 0x16, 2, 20]);
     at = entry(a, at, &[3, 1, 0, 0x42, 3, 30]);
     at = entry(a, at, &[2, 1, 0, 0x7000000000000008, 4, 40]);
-    at = entry(a, at, &[1, 2, 9, 0x7000000000000008, 5, 50]);
-    at = entry(a, at, &[1, 1, 0, 0x7000000000000008, 5, 50]);
+    entry(a, at, &[1, 2, 9, 0x7000000000000008, 5, 50])
+}
+
+// E and D of edition 3, A of edition 5, and the free cell.
+fn other_entries(a: &mut [u64], from: usize) {
+    let mut at = entry(a, from, &[1, 1, 0, 0x7000000000000008, 5, 50]);
     at = entry(a, at, &[1, 2, 13, 0x7000000000000008, 4, 40]);
     at = entry(a, at, &[1, 1, 0, 0x26, 1, 11]);
     entry(a, at, &[0, 0]);
@@ -100,9 +115,12 @@ fn entries(a: &mut [u64], from: usize) {
 
 pub fn lay_out(a: &mut [u64]) {
     let mut at = lay(a, 0, 12, &[1, 16, 38, 9, 9, 12, 39, 761, 74, 19, 36, 8]);
-    at = slots(a, at);
-    at = branches(a, at);
-    entries(a, at);
+    at = large_editions(a, at);
+    at = small_editions(a, at);
+    at = first_branches(a, at);
+    at = other_branches(a, at);
+    at = first_entries(a, at);
+    other_entries(a, at);
 }
 
 pub fn show(a: &[u64]) {
