@@ -14,11 +14,12 @@ use Rattle.layout.specs.declared.Shape.{Shape}
 use Rattle.layout.specs.Layout.{reference, kindOf, cellsOf}
 use Rattle.layout.specs.Columns.{State, columns, refs}
 use Rattle.trie.specs.Entry.{Entry}
-use Rattle.trie.specs.Trie.{Node, leaf, branch, Kids, none, kid, Item, Map, empty, root}
+use Rattle.trie.specs.Trie.{Node, leaf, branch, Kids, none, kid, Item, Map, empty, root, size}
 use Rattle.trie.specs.Canon.{Above, Asc, AllKids, Some, Busy, AllItems, NonEmpty, Under, In, Canon, Canonical}
 use Rattle.trie.specs.Names.{cells, total, totals, branchSum, entrySum, onMap}
 use Rattle.trie.proofs.KidsLaws.{above-asc}
 use Rattle.trie.proofs.RemoveCanon.{canon-root}
+use Rattle.trie.proofs.Sums.{size-count}
 use Rattle.arena.specs.Shows.{behind, ShowsChain, Shows, ShowsRow, ShowsMap}
 use Rattle.arena.proofs.RefLaws.{ref-cell}
 use Rattle.arena.proofs.Unique.{shows-one}
@@ -292,6 +293,9 @@ module _ (z : Shape) (σ : State) (live : (r : ℕ) → 0 < σ .count r → 0 < 
     pub entries-few : (d : ℕ) (m : Map ℕ) (r : ℕ) → Canonical seg W d m → ShowsMap σ m r
         → onMap (entrySum (λ c. 1)) m ≤ z .entries
     entries-few = few 1 (z .entries) (λ c. 0) (cells (λ c. 1)) (λ c l. omega arith) chain-within seg W
+
+    pub size-few : (d : ℕ) (m : Map ℕ) (r : ℕ) → Canonical seg W d m → ShowsMap σ m r → size m ≤ z .entries
+    size-few d m r c h = omega (arith, size-count m, entries-few d m r c h)
 
 -- a reference with a count names a cell, where the columns are an arena's words
 pub columns-live : (z : Shape) (a : List ℕ) → 0 < z .degree → (r : ℕ) → 0 < columns z a .count r → 0 < refs z r

@@ -1,5 +1,6 @@
 pub mod RefLaws
 pub mod LocalLaws
+pub mod FreeCells
 pub mod Frames
 pub mod Steps
 pub mod Unique
@@ -9,3 +10,5 @@ pub mod Equivalent
 pub mod Formatted
 pub mod BlankArena
 pub mod Few
+pub mod Shelved
+pub mod Puts

@@ -105,12 +105,12 @@ unfolding Within
 leaf-within zero xs = tt
 leaf-within (suc d) xs = tt
 
-all-kids : {P R : ℕ → Node ℕ → Type 0} (ks : Kids ℕ) → ((s : ℕ) (m : Node ℕ) → P s m → R s m) → AllKids P ks → AllKids R ks
+pub all-kids : {P R : ℕ → Node ℕ → Type 0} (ks : Kids ℕ) → ((s : ℕ) (m : Node ℕ) → P s m → R s m) → AllKids P ks → AllKids R ks
 unfolding AllKids
 all-kids none f a = tt
 all-kids (kid s m ks) f (a, all) = (f s m a, all-kids ks f all)
 
-canon-within : (seg : ℕ → ℕ → ℕ) (W : Entry → Type 0) (Q : Kids ℕ → Type 0) (d : ℕ) (path : List ℕ) (n : Node ℕ)
+pub canon-within : (seg : ℕ → ℕ → ℕ) (W : Entry → Type 0) (Q : Kids ℕ → Type 0) (d : ℕ) (path : List ℕ) (n : Node ℕ)
     → Canon seg W Q d path n → Within d n
 unfolding Canon Within
 canon-within seg W Q zero path (leaf xs) a = tt

@@ -477,44 +477,97 @@ shrink-give σ c =
 pub same-give : (σ : State) (c : ℕ) → SameSlots σ (giveState σ c)
 same-give σ c = record { held-eq = refl; root-eq = refl; size-eq = refl }
 
--- TAKE OUT: a reference goes from a cell into the hand
-kid-out : (f : ℕ → ℕ → ℕ) (c k d j : ℕ) → (upd2 f c k 0 d j ≡ 0) ⊎ (upd2 f c k 0 d j ≡ f d j)
-kid-out f c k d j =
+-- TAKE OUT AND PUT IN: a reference goes between a cell and the hand
+kid-out : (f : ℕ → ℕ → ℕ) (c k v d j : ℕ) → ((d ≡ c) × (j ≡ k) × (upd2 f c k v d j ≡ v)) ⊎ (upd2 f c k v d j ≡ f d j)
+kid-out f c k v d j =
     ⊎-elim
     (λ e.
-    let w : upd2 f c k 0 d j ≡ upd (f d) k 0 j = ap (λ (g : ℕ → ℕ). g j) (place-same f c k 0 d e) in
-    ⊎-elim (λ h. inl (w ∙ upd-same (f d) k 0 j h)) (λ h. inr (w ∙ upd-other (f d) k 0 j h)) (eq? j k))
-    (λ ne. inr (ap (λ (g : ℕ → ℕ). g j) (place-other f c k 0 d ne)))
+    let w : upd2 f c k v d j ≡ upd (f d) k v j = ap (λ (g : ℕ → ℕ). g j) (place-same f c k v d e) in
+    ⊎-elim (λ h. inl (e, h, w ∙ upd-same (f d) k v j h)) (λ h. inr (w ∙ upd-other (f d) k v j h)) (eq? j k))
+    (λ ne. inr (ap (λ (g : ℕ → ℕ). g j) (place-other f c k v d ne)))
     (eq? d c)
 
-pub take-out : {z : Shape} {σ : State} {H : ℕ → ℕ} {free : ℕ → List ℕ} (c k : ℕ)
-    → k < refs z c → Local z σ H free → Local z (setKid σ c k 0) (λ r. ind r (σ .kid c k) + H r) free
-take-out {z} {σ} c k lk I =
+-- a place of a cell gets another reference, or none; only a live cell gets one
+rekid : {z : Shape} {σ : State} {H : ℕ → ℕ} {free : ℕ → List ℕ} (K : ℕ → ℕ) (c k v : ℕ)
+    → k < refs z c
+    → ((v ≡ 0 → ⊥) → (0 < σ .count c) × Below (kindOf c) (σ .mark c) (kindOf v) (σ .mark v))
+    → ((r : ℕ) → (r ≡ 0 → ⊥) → ind r (σ .kid c k) + H r ≡ ind r v + K r)
+    → Local z σ H free → Local z (setKid σ c k v) K free
+rekid {z} {σ} K c k v lk may move I =
     let lc : c < top z = refs-inside z c (omega arith) in
-    let or = kid-out (σ .kid) c k in
+    let or = kid-out (σ .kid) c k v in
     record {
       exact =
           λ r nz.
           omega (
             arith,
             I .exact r nz,
-            sum-one (top z) (λ d. times (refs z d) (σ .kid d) r) (λ d. times (refs z d) (upd2 (σ .kid) c k 0 d) r) c lc
-                (λ d ne. ap (λ (g : ℕ → ℕ). times (refs z d) g r) (sym (place-other (σ .kid) c k 0 d ne))),
-            ap (λ (g : ℕ → ℕ). times (refs z c) g r) (place-same (σ .kid) c k 0 c refl),
-            cnt-upd (refs z c) (σ .kid c) k 0 r lk,
-            ind-other r 0 (λ y. nz (sym y)),
+            sum-one (top z) (λ d. times (refs z d) (σ .kid d) r) (λ d. times (refs z d) (upd2 (σ .kid) c k v d) r) c lc
+                (λ d ne. ap (λ (g : ℕ → ℕ). times (refs z d) g r) (sym (place-other (σ .kid) c k v d ne))),
+            ap (λ (g : ℕ → ℕ). times (refs z c) g r) (place-same (σ .kid) c k v c refl),
+            cnt-upd (refs z c) (σ .kid c) k v r lk,
+            move r nz,
           );
       out = I .out;
       chain = I .chain;
       free-once = I .free-once;
       within = I .within;
       used-ok = I .used-ok;
-      rest = λ q j y. ⊎-elim (λ e. e) (λ e. e ∙ I .rest q j y) (or q j);
+      rest =
+          λ q j y.
+          ⊎-elim
+          (λ e. e .2 ∙ ⊎-elim (λ o. o) (λ nz. absurd (omega (arith, may nz .0, ap (σ .count) (e .0)))) (eq? v 0))
+          (λ e. e ∙ I .rest q j y)
+          (or q j);
       blank = I .blank;
       deep = I .deep;
-      clip = λ q j l. ⊎-elim (λ e. e) (λ e. e ∙ I .clip q j l) (or q j);
-      below = λ q j nz. ⊎-elim (λ e. absurd (nz e)) (λ e. rw e (I .below q j (λ y. nz (e ∙ y)))) (or q j);
+      clip =
+          λ q j l.
+          ⊎-elim (λ e. absurd (omega (arith, ap (refs z) (e .0), e .1))) (λ e. e ∙ I .clip q j l) (or q j);
+      below =
+          λ q j nz.
+          ⊎-elim
+          (λ e. rw (e .2, e .0) (may (λ y. nz (e .2 ∙ y)) .1))
+          (λ e. rw e (I .below q j (λ y. nz (e ∙ y))))
+          (or q j);
       no-root = I .no-root;
+    }
+
+pub take-out : {z : Shape} {σ : State} {H : ℕ → ℕ} {free : ℕ → List ℕ} (c k : ℕ)
+    → k < refs z c → Local z σ H free → Local z (setKid σ c k 0) (λ r. ind r (σ .kid c k) + H r) free
+take-out {σ = σ} {H = H} c k lk I =
+    rekid (λ r. ind r (σ .kid c k) + H r) c k 0 lk (λ nz. absurd (nz refl))
+    (λ r nz. omega (arith, ind-other r 0 (λ y. nz (sym y)))) I
+
+pub put-in : {z : Shape} {σ : State} {free : ℕ → List ℕ} (H : ℕ → ℕ) (c k v : ℕ)
+    → k < refs z c → 0 < σ .count c → σ .kid c k ≡ 0 → ((v ≡ 0 → ⊥) → Below (kindOf c) (σ .mark c) (kindOf v) (σ .mark v))
+    → Local z σ (λ r. ind r v + H r) free → Local z (setKid σ c k v) H free
+put-in {σ = σ} H c k v lk live bare below I =
+    rekid H c k v lk (λ nz. (live, below nz)) (λ r nz. omega (arith, ind-other r (σ .kid c k) (λ y. nz (sym y ∙ bare)))) I
+
+-- what lived keeps its words but for that one reference, and all of them if the cell did not live
+pub grow-kid : {ρ σ : State} (c k v : ℕ) → Grow ρ σ → Grow (setKid ρ c k v) (setKid σ c k v)
+grow-kid {ρ} {σ} c k v g =
+    record {
+      live = g .live;
+      mark-eq = g .mark-eq;
+      kid-eq =
+          λ r l.
+          ⊎-elim
+          (λ e.
+          place-same (σ .kid) c k v r e ∙ ap (λ (f : ℕ → ℕ). upd f k v) (g .kid-eq r l) ∙ sym (place-same (ρ .kid) c k v r e))
+          (λ ne. place-other (σ .kid) c k v r ne ∙ g .kid-eq r l ∙ sym (place-other (ρ .kid) c k v r ne))
+          (eq? r c);
+      plain-eq = g .plain-eq;
+    }
+
+pub grow-put-in : {ρ σ : State} (c k v : ℕ) → Grow ρ σ → ρ .count c ≡ 0 → Grow ρ (setKid σ c k v)
+grow-put-in {ρ} {σ} c k v g e =
+    record {
+      live = g .live;
+      mark-eq = g .mark-eq;
+      kid-eq = λ r l. place-other (σ .kid) c k v r (λ h. omega (arith, ap (ρ .count) h)) ∙ g .kid-eq r l;
+      plain-eq = g .plain-eq;
     }
 
 pub shrink-take-out : (σ : State) (c k v : ℕ) → Shrink c σ (setKid σ c k v)

@@ -1,5 +1,5 @@
 -- The steps that updates are made of, on the columns of an arena. Beside these a count moves by one (`setCount`), a reference is
--- taken out of a cell (`setKid`) and a slot is written (`setSlot`); nothing else writes a cell or a slot.
+-- taken out of a cell or put into one (`setKid`) and a slot is written (`setSlot`); nothing else writes a cell or a slot.
 use Prim.Native.Nat.{ℕ, _+_, _-_}
 use mathlib.Core.Bool.{cond}
 use mathlib.Core.List.{List, _∷_}

@@ -6,7 +6,7 @@ use mathlib.Core.Bool.{Bool, true, false, cond}
 use mathlib.Core.List.{List}
 use native.Mathlib.Omega.{arith}
 use lib.Dec.{eqb, ltb}
-use lib.ListN.{set, length-set}
+use lib.ListN.{length, set, length-set}
 use lib.Seq.{getD-set-other}
 use borrow.Author.Tests.{eqb-false}
 use Rattle.layout.specs.declared.Shape.{Shape}
@@ -15,7 +15,7 @@ use Rattle.layout.specs.Header.{Header}
 use Rattle.layout.specs.Columns.{word, byKind, refs, setWord, setSlotWord, setSlotWords}
 use Rattle.layout.proofs.OffsetLaws.{word-inside, slot-inside}
 use Rattle.layout.proofs.ColumnLaws.{has-low, has-kid, has-entry, has-branch}
-use Rattle.cells.specs.Mirrors.{shareWords, unshareWords, takeable, takeCell, takeWords, fillEntryWords, rowWords, fillBranchWords, takeOutWords, blankWords, giveBackWords}
+use Rattle.cells.specs.Mirrors.{shareWords, unshareWords, takeable, takeCell, takeWords, fillEntryWords, rowWords, fillBranchWords, putInWords, takeOutWords, blankWords, giveBackWords}
 use Rattle.cells.specs.Frame.{Kept}
 use Rattle.cells.proofs.TakeLaws.{takeable-says}
 
@@ -33,6 +33,9 @@ kept-trans P Q =
 
 pub kept-lent : {z : Shape} {a b : List ℕ} → Kept z a b → Lent z a → Lent z b
 kept-lent K l = record { allowed = l .allowed; long = omega (arith, K .same-length, l .long) }
+
+pub lent-same : {z : Shape} {a b : List ℕ} → length b ≡ length a → Lent z a → Lent z b
+lent-same e l = record { allowed = l .allowed; long = omega (arith, e, l .long) }
 
 pub kept-header : {z : Shape} {a b : List ℕ} → Kept z a b → Header a z → Header b z
 kept-header K h =
@@ -106,22 +109,25 @@ fill-entry-kept z a r l n h k v e k1 =
     (kept-trans (word-kept z _ r 3 _ (has-entry z r 3 e o (omega arith)))
     (kept-trans (word-kept z _ r 4 _ (has-entry z r 4 e o (omega arith))) (word-kept z _ r 5 _ (has-entry z r 5 e o (omega arith))))))
 
-row-kept : (z : Shape) (r : ℕ) (row : List ℕ) (n : ℕ) (a : List ℕ) → names z r ≡ true → kindOf r ≡ 0 → n ≤ z .degree
+row-kept : (z : Shape) (r : ℕ) (row : ℕ → ℕ) (n : ℕ) (a : List ℕ) → names z r ≡ true → kindOf r ≡ 0 → n ≤ z .degree
     → Kept z a (rowWords z r row n a)
 unfolding rowWords
 row-kept z r row zero a e o l = kept-refl z a
 row-kept z r row (suc n) a e o l =
     kept-trans (row-kept z r row n a e o (omega arith)) (word-kept z _ r (3 + n) _ (has-branch z r (3 + n) e o (omega arith)))
 
-pub fill-branch-kept : (z : Shape) (a : List ℕ) (r t bm : ℕ) (row : List ℕ) → names z r ≡ true → kindOf r ≡ 0
+pub fill-branch-kept : (z : Shape) (a : List ℕ) (r t bm : ℕ) (row : ℕ → ℕ) → names z r ≡ true → kindOf r ≡ 0
     → Kept z a (fillBranchWords z a r t bm row)
 unfolding fillBranchWords
 fill-branch-kept z a r t bm row e o =
     kept-trans (word-kept z a r 1 _ (has-low z r 1 e (omega arith)))
     (kept-trans (word-kept z _ r 2 _ (has-low z r 2 e (omega arith))) (row-kept z r row (z .degree) _ e o (omega arith)))
 
+pub put-in-kept : (z : Shape) (a : List ℕ) (r k v : ℕ) → k < refs z r → Kept z a (putInWords z a r k v)
+put-in-kept z a r k v l = word-kept z a r _ v (has-kid z r k l)
+
 pub take-out-kept : (z : Shape) (a : List ℕ) (r k : ℕ) → k < refs z r → Kept z a (takeOutWords z a r k)
-take-out-kept z a r k l = word-kept z a r _ 0 (has-kid z r k l)
+take-out-kept z a r k l = put-in-kept z a r k 0 l
 
 blank-kept : (z : Shape) (a : List ℕ) (r : ℕ) → names z r ≡ true → Kept z a (blankWords z a r)
 unfolding blankWords

@@ -4,3 +4,4 @@ pub mod SlotLaws
 pub mod KeptLaws
 pub mod StepColumns
 pub mod Meaning
+pub mod Made

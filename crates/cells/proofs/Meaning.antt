@@ -14,7 +14,7 @@ use Rattle.counts.specs.Counts.{ind, sumTo, times}
 use Rattle.counts.proofs.CountLaws.{upd-at, row-same}
 use Rattle.layout.specs.declared.Shape.{Shape}
 use Rattle.layout.specs.Layout.{kindOf, names, Lent}
-use Rattle.layout.specs.Columns.{State, byKind, refs, columns, setSlotWords, setSlot}
+use Rattle.layout.specs.Columns.{State, byKind, refs, columns, setSlotWords, setKid, setSlot}
 use Rattle.layout.proofs.SizeLaws.{row-is-right, small}
 use Rattle.layout.proofs.OffsetLaws.{names-low}
 use Rattle.layout.proofs.ColumnLaws.{slot-store}
@@ -23,10 +23,10 @@ use Rattle.arena.specs.Steps.{takeState, fillState, onChain}
 use Rattle.arena.proofs.RefLaws.{refs-none, refs-some, refs-branch, refs-entry}
 use Rattle.arena.proofs.LocalLaws.{rehand, live-cell, first, used-and-free, none-left, count-bound}
 use Rattle.arena.proofs.Frames.{grow-refl, slots-refl, SameSlot}
-use Rattle.arena.proofs.Steps.{share, unshare, share-none as share-nothing, grow-share, shrink-unshare, same-count, take, grow-take, same-take, fill, grow-fill, same-fill, give-back, shrink-give, same-give, take-out, shrink-take-out, same-kid, hold, let-go, grow-slot, shrink-slot, slot-other}
-use Rattle.cells.specs.Mirrors.{shareWords, unshareWords, takeable, takenOf, takeWords, fillEntryWords, fillBranchWords, takeOutWords, giveBackWords}
+use Rattle.arena.proofs.Steps.{share, unshare, share-none as share-nothing, grow-share, shrink-unshare, same-count, take, grow-take, same-take, fill, grow-fill, same-fill, give-back, shrink-give, same-give, take-out, shrink-take-out, put-in, grow-kid, grow-put-in, same-kid, hold, let-go, grow-slot, shrink-slot, slot-other}
+use Rattle.cells.specs.Mirrors.{shareWords, unshareWords, takeable, takenOf, takeWords, fillEntryWords, fillBranchWords, putInWords, takeOutWords, giveBackWords}
 use Rattle.cells.proofs.TakeLaws.{takeable-is, takeable-says, taken-some, taken-none, take-words-none}
-use Rattle.cells.proofs.StepColumns.{lent-degree, lent-refs, one, three, rowUpTo, share-none, share-columns, unshare-columns, take-columns, fill-entry-columns, fill-branch-columns, take-out-columns, give-back-columns}
+use Rattle.cells.proofs.StepColumns.{lent-degree, lent-refs, one, three, rowUpTo, share-none, share-columns, unshare-columns, take-columns, fill-entry-columns, fill-branch-columns, put-in-columns, take-out-columns, give-back-columns}
 
 -- WHAT A STEP GIVES: the local form, and what it leaves alone
 pub record Grown (z : Shape) (σ τ : State) (hand : ℕ → ℕ) (free : ℕ → List ℕ) : Type 0 where
@@ -48,6 +48,14 @@ pub record Filled (z : Shape) (c v : ℕ) (f d : ℕ → ℕ) (σ τ : State) (h
   pub kid-is : τ .kid c ≡ f
   pub plain-is : τ .plain c ≡ d
   pub grow : {ρ : State} → Grow ρ σ → ρ .count c ≡ 0 → Grow ρ τ
+  pub slots : SameSlots σ τ
+
+-- a reference v that is put into the cell r at place k: what lived keeps its words but for that one reference, and keeps all of
+-- them where the cell is newer
+pub record PutIn (z : Shape) (r k v : ℕ) (σ τ : State) (hand : ℕ → ℕ) (free : ℕ → List ℕ) : Type 0 where
+  pub local : Local z τ hand free
+  pub over : {ρ : State} → Grow ρ σ → Grow (setKid ρ r k v) τ
+  pub grow : {ρ : State} → Grow ρ σ → ρ .count r ≡ 0 → Grow ρ τ
   pub slots : SameSlots σ τ
 
 -- a slot that is written: no cell changes and no other slot
@@ -166,7 +174,7 @@ unfolding one
 one-place P n h zero nz = h nz
 one-place P n h (suc k) nz = absurd (nz refl)
 
-row-clip : (n : ℕ) (row : List ℕ) (k : ℕ) → n ≤ k → rowUpTo n row k ≡ 0
+row-clip : (n : ℕ) (row : ℕ → ℕ) (k : ℕ) → n ≤ k → rowUpTo n row k ≡ 0
 unfolding rowUpTo
 row-clip n row k l = rw (le-ltb k n l)
 
@@ -207,7 +215,7 @@ module _ {z : Shape} {a : List ℕ} {free : ℕ → List ℕ} (H : ℕ → ℕ) 
       (λ k lk. one-clip next k (omega arith))
       (rw o (one-place (λ x. Below 1 length (kindOf x) (σ .mark x)) next below)) (λ y. absurd (omega arith)))
 
-  pub fill-branch-means : (depth bitmap : ℕ) (row : List ℕ) → kindOf r ≡ 0
+  pub fill-branch-means : (depth bitmap : ℕ) (row : ℕ → ℕ) → kindOf r ≡ 0
       → Local z (columns z a) (λ x. times (z .degree) (rowUpTo (z .degree) row) x + (ind x r + H x)) free
       → ((k : ℕ) → (rowUpTo (z .degree) row k ≡ 0 → ⊥)
       → Below 0 depth (kindOf (rowUpTo (z .degree) row k)) (columns z a .mark (rowUpTo (z .degree) row k)))
@@ -222,6 +230,22 @@ module _ {z : Shape} {a : List ℕ} {free : ℕ → List ℕ} (H : ℕ → ℕ) 
       (filled H r depth f (one bitmap)
       (rehand _ (λ x nz. omega (arith, ap (λ (n : ℕ). times n f x) e)) I) alone bare
       (λ k lk. row-clip (z .degree) row k (omega arith)) (rw o below) (λ y. deep))
+
+-- PUT IN. The cell lives and holds nothing at the place; what is put there is in hand.
+pub put-in-means : {z : Shape} {a : List ℕ} {free : ℕ → List ℕ} (H : ℕ → ℕ) (r k v : ℕ)
+    → Lent z a → k < refs z r → 0 < columns z a .count r → columns z a .kid r k ≡ 0
+    → ((v ≡ 0 → ⊥) → Below (kindOf r) (columns z a .mark r) (kindOf v) (columns z a .mark v))
+    → Local z (columns z a) (λ x. ind x v + H x) free
+    → PutIn z r k v (columns z a) (columns z (putInWords z a r k v)) H free
+put-in-means {z} {a} H r k v l lk live bare below I =
+    let σ = columns z a in
+    rw (put-in-columns z a r k v l lk)
+    (record {
+      local = put-in H r k v lk live bare below I;
+      over = λ g. grow-kid r k v g;
+      grow = λ g e. grow-put-in r k v g e;
+      slots = same-kid σ r k v;
+    })
 
 -- TAKE OUT AND GIVE BACK
 pub take-out-means : {z : Shape} {a : List ℕ} {H : ℕ → ℕ} {free : ℕ → List ℕ} (r k : ℕ)

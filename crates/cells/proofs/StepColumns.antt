@@ -7,7 +7,7 @@ use mathlib.Core.List.{List}
 use mathlib.Core.Logic.{⊎-elim}
 use native.Mathlib.Omega.{arith}
 use lib.Dec.{ltb}
-use lib.ListN.{length, getD, set}
+use lib.ListN.{length, set}
 use borrow.Author.Tests.{eq-eqb, ne-eqb, lt-ltb, le-ltb}
 use Rattle.cases.proofs.Cases.{eq?, lt?}
 use Rattle.counts.specs.Counts.{upd, upd2, updRow}
@@ -19,7 +19,7 @@ use Rattle.layout.proofs.SizeLaws.{small}
 use Rattle.layout.proofs.ColumnLaws.{has-low, has-kid, has-plain, count-store, mark-store, kid-store, plain-store, first-store, used-store}
 use Rattle.arena.specs.Steps.{takeState, fillState, giveState}
 use Rattle.arena.proofs.RefLaws.{names-refs, refs-branch, refs-entry}
-use Rattle.cells.specs.Mirrors.{shareWords, unshareWords, takeable, takeCell, takeWords, fillEntryWords, rowWords, fillBranchWords, takeOutWords, blankWords, giveBackWords}
+use Rattle.cells.specs.Mirrors.{shareWords, unshareWords, takeable, takeCell, takeWords, fillEntryWords, rowWords, fillBranchWords, putInWords, takeOutWords, blankWords, giveBackWords}
 use Rattle.cells.specs.Frame.{Kept}
 use Rattle.cells.proofs.TakeLaws.{takeable-says}
 use Rattle.cells.proofs.KeptLaws.{kept-lent, word-kept, kind-kept}
@@ -42,29 +42,29 @@ three h k v (suc zero) = k
 three h k v (suc (suc zero)) = v
 three h k v (suc (suc (suc j))) = 0
 
-unfoldable pub rowUpTo : ℕ → List ℕ → ℕ → ℕ
-rowUpTo n row k = cond (ltb k n) (getD row k 0) 0
+unfoldable pub rowUpTo : ℕ → (ℕ → ℕ) → ℕ → ℕ
+rowUpTo n row k = cond (ltb k n) (row k) 0
 
 -- a row whose first n places were overwritten
-unfoldable over : ℕ → List ℕ → (ℕ → ℕ) → ℕ → ℕ
+unfoldable over : ℕ → (ℕ → ℕ) → (ℕ → ℕ) → ℕ → ℕ
 over zero row f = f
-over (suc n) row f = upd (over n row f) n (getD row n 0)
+over (suc n) row f = upd (over n row f) n (row n)
 
-over-in : (n : ℕ) (row : List ℕ) (f : ℕ → ℕ) (k : ℕ) → k < n → over n row f k ≡ getD row k 0
+over-in : (n : ℕ) (row : ℕ → ℕ) (f : ℕ → ℕ) (k : ℕ) → k < n → over n row f k ≡ row k
 unfolding over
 over-in zero row f k l = absurd (omega arith)
 over-in (suc n) row f k l =
     ⊎-elim
-    (λ e. upd-same (over n row f) n (getD row n 0) k e ∙ ap (λ (j : ℕ). getD row j 0) (sym e))
-    (λ ne. upd-other (over n row f) n (getD row n 0) k ne ∙ over-in n row f k (omega arith))
+    (λ e. upd-same (over n row f) n (row n) k e ∙ ap row (sym e))
+    (λ ne. upd-other (over n row f) n (row n) k ne ∙ over-in n row f k (omega arith))
     (eq? k n)
 
-over-out : (n : ℕ) (row : List ℕ) (f : ℕ → ℕ) (k : ℕ) → n ≤ k → over n row f k ≡ f k
+over-out : (n : ℕ) (row : ℕ → ℕ) (f : ℕ → ℕ) (k : ℕ) → n ≤ k → over n row f k ≡ f k
 unfolding over
 over-out zero row f k l = refl
-over-out (suc n) row f k l = upd-other (over n row f) n (getD row n 0) k (λ e. omega arith) ∙ over-out n row f k (omega arith)
+over-out (suc n) row f k l = upd-other (over n row f) n (row n) k (λ e. omega arith) ∙ over-out n row f k (omega arith)
 
-over-all : (n : ℕ) (row : List ℕ) (f : ℕ → ℕ) → ((k : ℕ) → n ≤ k → f k ≡ 0) → over n row f ≡ rowUpTo n row
+over-all : (n : ℕ) (row : ℕ → ℕ) (f : ℕ → ℕ) → ((k : ℕ) → n ≤ k → f k ≡ 0) → over n row f ≡ rowUpTo n row
 unfolding rowUpTo
 over-all n row f clip =
     fun-ext
@@ -250,14 +250,14 @@ fill-entry-columns z a r l n h k v lent e o =
     let plains = fun-ext (three-over d h k v (λ j lj. no-plain z a r j (omega arith))) in
     R₅ .reads ∙ (λ i. fillState σ r l (kids i) (plains i))
 
-kids-in : {z : Shape} {a : List ℕ} (σ : State) (r : ℕ) (f : ℕ → ℕ) (row : List ℕ) (n : ℕ) → kindOf r ≡ 0 → n ≤ refs z r
+kids-in : {z : Shape} {a : List ℕ} (σ : State) (r : ℕ) (f : ℕ → ℕ) (row : ℕ → ℕ) (n : ℕ) → kindOf r ≡ 0 → n ≤ refs z r
     → Reads z a (kidRow σ r f) → Reads z (rowWords z r row n a) (kidRow σ r (over n row f))
 unfolding rowWords over
 kids-in σ r f row zero o l R = R
 kids-in σ r f row (suc n) o l R =
-    kid-in σ r (over n row f) n (3 + n) (getD row n 0) (omega arith) (omega arith) (kids-in σ r f row n o (omega arith) R)
+    kid-in σ r (over n row f) n (3 + n) (row n) (omega arith) (omega arith) (kids-in σ r f row n o (omega arith) R)
 
-pub fill-branch-columns : (z : Shape) (a : List ℕ) (r t bm : ℕ) (row : List ℕ) → Lent z a → names z r ≡ true → kindOf r ≡ 0
+pub fill-branch-columns : (z : Shape) (a : List ℕ) (r t bm : ℕ) (row : ℕ → ℕ) → Lent z a → names z r ≡ true → kindOf r ≡ 0
     → columns z (fillBranchWords z a r t bm row) ≡ fillState (columns z a) r t (rowUpTo (z .degree) row) (one bm)
 unfolding fillBranchWords
 fill-branch-columns z a r t bm row lent e o =
@@ -275,9 +275,13 @@ fill-branch-columns z a r t bm row lent e o =
     R₃ .reads ∙ (λ i. fillState σ r t (kids i) (plains i))
 
 -- TAKE OUT
+pub put-in-columns : (z : Shape) (a : List ℕ) (r k v : ℕ) → Lent z a → k < refs z r
+    → columns z (putInWords z a r k v) ≡ setKid (columns z a) r k v
+put-in-columns z a r k v lent l = kid-to (reads-all lent) r k v l .reads
+
 pub take-out-columns : (z : Shape) (a : List ℕ) (r k : ℕ) → Lent z a → k < refs z r
     → columns z (takeOutWords z a r k) ≡ setKid (columns z a) r k 0
-take-out-columns z a r k lent l = kid-to (reads-all lent) r k 0 l .reads
+take-out-columns z a r k lent l = put-in-columns z a r k 0 lent l
 
 -- GIVE BACK
 one-blank : (k : ℕ) → one 0 k ≡ 0

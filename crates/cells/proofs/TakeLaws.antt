@@ -1,14 +1,14 @@
 -- What the test before a cell is taken says: the cell is a free one of the kind, and not all cells of the kind are in use.
-use Prim.Native.Nat.{ℕ, _<_}
-use mathlib.Core.Path.{_≡_}
+use Prim.Native.Nat.{ℕ, _+_, _-_, _^_, _≤_, _<_}
+use mathlib.Core.Path.{_≡_, _∙_}
 use mathlib.Core.Bool.{true, false}
 use mathlib.Core.List.{List}
-use borrow.Author.Tests.{eqb-true, ltb-true, eq-eqb, lt-ltb}
-use Rattle.cases.proofs.Cases.{both}
+use borrow.Author.Tests.{eqb-true, ltb-true, eq-eqb, lt-ltb, le-ltb}
+use Rattle.cases.proofs.Cases.{split, both}
 use Rattle.layout.specs.declared.Shape.{Shape}
 use Rattle.layout.specs.Layout.{kindOf, cellsOf, names}
 use Rattle.layout.specs.Columns.{word, byKind}
-use Rattle.cells.specs.Mirrors.{takeable, takenOf, takeCell, takeWords}
+use Rattle.cells.specs.Mirrors.{oneMore, takeable, takenOf, takeCell, takeWords}
 
 pub record Takeable (z : Shape) (a : List ℕ) (k r : ℕ) : Type 0 where
   pub named : names z r ≡ true
@@ -45,3 +45,19 @@ module _ (z : Shape) (a : List ℕ) (k : ℕ) where
   pub take-words-none : takeable z a k (byKind a 8 k) ≡ false → takeWords z a k ≡ a
   unfolding takeWords
   take-words-none e = rw e
+
+-- what was taken is a cell of the kind
+pub taken-cell : (z : Shape) (a : List ℕ) (k r : ℕ) → r ≡ takenOf z a k → (r ≡ 0 → ⊥) → (names z r ≡ true) × (kindOf r ≡ k)
+taken-cell z a k r e ne =
+    split (takeable z a k (byKind a 8 k))
+    (λ t. let T = takeable-says z a k _ t in rw (e ∙ taken-some z a k t) (T .named, T .kind))
+    (λ f. absurd (ne (e ∙ taken-none z a k f)))
+
+-- ONE MORE
+pub more-some : (n : ℕ) → n < 2 ^ 64 - 1 → oneMore n ≡ n + 1
+unfolding oneMore
+more-some n l = rw (lt-ltb n (2 ^ 64 - 1) l)
+
+pub more-none : (n : ℕ) → 2 ^ 64 - 1 ≤ n → oneMore n ≡ n
+unfolding oneMore
+more-none n l = rw (le-ltb n (2 ^ 64 - 1) l)

@@ -7,7 +7,7 @@ ghost use Prim.Native.Nat.{_≤_, _<_};
 ghost use lib.ListN.{length};
 ghost use Rattle.layout.specs.Layout.{kindOf, names, Lent};
 ghost use Rattle.layout.specs.Columns.{columns, refs};
-ghost use Rattle.cells.specs.Mirrors.{fillEntryWords, rowWords, fillBranchWords, takeOutWords};
+ghost use Rattle.cells.specs.Mirrors.{listed, fillEntryWords, rowWords, fillBranchWords, putInWords, takeOutWords};
 
 pub fn fill_entry(
     a: &mut [u64],
@@ -34,7 +34,7 @@ pub fn fill_entry(
 fn fill_row(a: &mut [u64], z: Shape, r: u64, row: &[u64])
     requires { ⌜ Lent z (now a) ⌝ }
     requires { ⌜ (names z r ≡ true) × (kindOf r ≡ 0) × (z .degree ≤ length (now row)) ⌝ }
-    ensures { λ _. ⌜ now (a .exit) ≡ rowWords z r (now (row .entry)) (z .degree) (now (a .entry)) ⌝ }
+    ensures { λ _. ⌜ now (a .exit) ≡ rowWords z r (listed (now (row .entry))) (z .degree) (now (a .entry)) ⌝ }
 {
     let mut k = 0;
     while k < z.degree {
@@ -46,11 +46,21 @@ fn fill_row(a: &mut [u64], z: Shape, r: u64, row: &[u64])
 pub fn fill_branch(a: &mut [u64], z: Shape, r: u64, depth: u64, bitmap: u64, row: &[u64])
     requires { ⌜ Lent z (now a) ⌝ }
     requires { ⌜ (names z r ≡ true) × (kindOf r ≡ 0) × (z .degree ≤ length (now row)) ⌝ }
-    ensures { λ _. ⌜ now (a .exit) ≡ fillBranchWords z (now (a .entry)) r depth bitmap (now (row .entry)) ⌝ }
+    ensures { λ _. ⌜ now (a .exit) ≡ fillBranchWords z (now (a .entry)) r depth bitmap (listed (now (row .entry))) ⌝ }
 {
     words::set_word(&mut *a, z, r, words::MARK, depth);
     words::set_word(&mut *a, z, r, words::BITMAP, bitmap);
     fill_row(&mut *a, z, r, row);
+}
+
+// A reference that a cell holds from now on at its place `k`.
+pub fn put_in(a: &mut [u64], z: Shape, r: u64, k: u64, v: u64)
+    requires { ⌜ Lent z (now a) ⌝ }
+    requires { ⌜ k < refs z r ⌝ }
+    ensures { λ _. ⌜ now (a .exit) ≡ putInWords z (now (a .entry)) r k v ⌝ }
+{
+    // An entry's next stands one place before where a branch's children begin.
+    words::set_word(&mut *a, z, r, words::CHILDREN - r % 2 + k, v);
 }
 
 // Reference `k` of a cell, which becomes 0: an entry's next, or one of a branch's children.
@@ -60,9 +70,7 @@ pub fn take_out(a: &mut [u64], z: Shape, r: u64, k: u64) -> u64
     ensures { λ v. ⌜ v ≡ columns z (now (a .entry)) .kid r k ⌝ }
     ensures { λ _. ⌜ now (a .exit) ≡ takeOutWords z (now (a .entry)) r k ⌝ }
 {
-    // An entry's next stands one place before where a branch's children begin.
-    let place = words::CHILDREN - r % 2 + k;
-    let v = words::word(&*a, z, r, place);
-    words::set_word(&mut *a, z, r, place, 0);
+    let v = words::word(&*a, z, r, words::CHILDREN - r % 2 + k);
+    put_in(a, z, r, k, 0);
     v
 }

@@ -5,7 +5,7 @@ ghost use mathlib.Core.Path.{_≡_};
 ghost use mathlib.Core.Bool.{true};
 ghost use Prim.Native.Nat.{_-_};
 ghost use Rattle.layout.specs.Layout.{names, Lent};
-ghost use Rattle.cells.specs.Mirrors.{shareWords, unshareWords};
+ghost use Rattle.cells.specs.Mirrors.{oneMore, shareWords, unshareWords};
 
 const MOST: u64 = 18446744073709551615;
 
@@ -14,6 +14,13 @@ pub fn fewer(n: u64) -> u64
     ensures { λ r. ⌜ r ≡ n - 1 ⌝ }
 {
     if n == 0 { 0 } else { n - 1 }
+}
+
+// One more, where there is such a number.
+pub fn more(n: u64) -> u64
+    ensures { λ r. ⌜ r ≡ oneMore n ⌝ }
+{
+    if n < MOST { n + 1 } else { n }
 }
 
 // One more word will name the cell. A count that cannot rise stays: no sound arena has one.

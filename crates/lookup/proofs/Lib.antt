@@ -1,3 +1,4 @@
 pub mod FindLaws
 pub mod RowLaws
 pub mod Meaning
+pub mod SplitLaws

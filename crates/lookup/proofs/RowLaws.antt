@@ -17,7 +17,7 @@ use Rattle.arena.specs.Shows.{bitmap, behind, Shows, ShowsRow}
 
 -- a power of two added to a bitmap that lacks its bit sets that bit alone
 module _ (b i : ℕ) (clear : bit b i ≡ 0) where
-  added : bitOr b (2 ^ i) ≡ 2 ^ i + b
+  pub added : bitOr b (2 ^ i) ≡ 2 ^ i + b
   added =
       or-disjoint b (2 ^ i) (and-bit b i ∙ ap (λ (x : ℕ). x * 2 ^ i) clear ∙ zero-mul (2 ^ i)) ∙ add-comm b (2 ^ i)
 

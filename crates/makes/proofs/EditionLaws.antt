@@ -4,7 +4,6 @@ use Prim.Native.Nat.{ℕ, _<_}
 use mathlib.Core.Path.{_≡_, refl, sym, ap, _∙_, subst}
 use mathlib.Core.Bool.{true, false}
 use mathlib.Core.List.{List}
-use mathlib.Core.Logic.{_⊎_}
 use native.Mathlib.Omega.{arith}
 use Rattle.cases.proofs.Cases.{split}
 use Rattle.segments.specs.Segments.{segment}
@@ -15,9 +14,9 @@ use Rattle.layout.specs.declared.Shape.{Shape}
 use Rattle.layout.specs.Header.{Header, headerOf}
 use Rattle.layout.specs.Columns.{slotWord, columns, setSlotWords}
 use Rattle.layout.proofs.OffsetLaws.{names-low}
-use Rattle.layout.proofs.HeaderLaws.{header-says, header-once}
-use Rattle.arena.specs.Shows.{ShowsMap, Edition}
-use Rattle.arena.specs.Sound.{FreeSlot, HeldSlot, Sound}
+use Rattle.layout.proofs.HeaderLaws.{header-says}
+use Rattle.arena.specs.Shows.{ShowsMap}
+use Rattle.arena.specs.Sound.{Sound}
 use Rattle.cells.specs.declared.Slot.{Slot}
 use Rattle.cells.specs.declared.Slot.the-variants.{At, NoneFree}
 use Rattle.cells.specs.Slots.{heldSlot, freeSlot}
@@ -29,22 +28,14 @@ use Rattle.replies.specs.declared.Refusal.the-variants as Why
 use Rattle.replies.specs.declared.Made.{Made}
 use Rattle.replies.specs.declared.Made.the-variants as M
 use Rattle.replies.specs.Answers.{made, refused, done}
-use Rattle.replies.proofs.AnswerLaws.{refused-not-done, done-value, header-right}
+use Rattle.replies.proofs.AnswerLaws.{refused-not-done, done-value, header-right, slot-at, slot-none}
 use Rattle.replies.specs.Outcomes.{Outcome, leaves, onHeader}
-use Rattle.makes.specs.Calls.{onSlot, newTo, newEditionIn, newEditionOf, shareTo, shareHeld, shareIn, shareOf}
+use Rattle.makes.specs.Calls.{newTo, newEditionIn, newEditionOf, shareTo, shareHeld, shareIn, shareOf}
 use Rattle.arena.specs.Holds.{Holds, Keeps}
 use Rattle.makes.specs.Contracts.{MakesNew, Shares}
 use Rattle.makes.proofs.PutLaws.{put-kept, put-new, put-sound}
 use Rattle.arena.proofs.Equivalent.{held-slot}
-
--- THE CASES OF A SLOT
-slot-at : (y : Slot) (x : Outcome) (f : ℕ → Outcome) (s : ℕ) → y ≡ At s → onSlot y x f ≡ f s
-unfolding onSlot
-slot-at y x f s e = rw e
-
-slot-none : (y : Slot) (x : Outcome) (f : ℕ → Outcome) → y ≡ NoneFree → onSlot y x f ≡ x
-unfolding onSlot
-slot-none y x f e = rw e
+use Rattle.arena.proofs.Shelved.{slots-in}
 
 -- what the code leaves, case by case
 module _ (z : Shape) (a : List ℕ) where
@@ -108,8 +99,7 @@ new-means a z h = by (freeSlot z a) refl
           sound =
               λ S.
               rw (sym same)
-              (put-sound z a h s 0 0 (w .slot) (w .not-held) empty sh sz (empty-built (segment (z .bits)) (z .depths)) S
-              (header-once a (S .shape) z (S .header) h));
+              (put-sound z a h s 0 0 (w .slot) (w .not-held) empty sh sz (empty-built (segment (z .bits)) (z .depths)) S);
           kept = λ i m E. rw (sym same) (put-kept z a h s 0 0 (w .slot) (w .not-held) i m E);
           new =
               λ i q m em.
@@ -159,9 +149,8 @@ share-to-means a z h i s li hi w =
     record {
       sound =
           λ S.
-          let q = header-once a (S .shape) z (S .header) h in
-          let k = held-slot z (columns z a) i hi (subst (λ (y : Shape). FreeSlot (columns y a) i ⊎ HeldSlot y (columns y a) i) q (S .slots i (rw q li))) in
-          put-sound z a h s r n (w .slot) (w .not-held) (k .map) (k .edition .shows) (k .edition .sized) (k .built) S q;
+          let k = held-slot z (columns z a) i hi (slots-in a S z h i li) in
+          put-sound z a h s r n (w .slot) (w .not-held) (k .map) (k .edition .shows) (k .edition .sized) (k .built) S;
       kept = λ e m E. put-kept z a h s r n (w .slot) (w .not-held) e m E;
       new = λ e q m E. rw (sym (done-value s 0 e 0 q)) (put-new z a h s r n (w .slot) (w .not-held) m (E .shows) (E .sized));
     }

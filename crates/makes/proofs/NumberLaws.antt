@@ -14,19 +14,17 @@ use Rattle.layout.specs.declared.Shape.{Shape}
 use Rattle.layout.specs.declared.Shaped.the-variants.{Fits, BadSizes}
 use Rattle.layout.specs.Layout.{total}
 use Rattle.layout.specs.Header.{sizesFit, shape, shapeOf}
-use Rattle.layout.specs.Columns.{slotWord}
 use Rattle.layout.proofs.HeaderLaws.{shape-fits, shape-sizes, shape-degree}
-use Rattle.cells.specs.declared.Slot.{Slot}
 use Rattle.cells.specs.declared.Slot.the-variants.{At, NoneFree}
 use Rattle.cells.specs.Slots.{freeSlot}
-use Rattle.cells.proofs.SlotLaws.{held-is, free-slot-lowest, free-slot-none}
+use Rattle.cells.proofs.SlotLaws.{held-is}
 use Rattle.replies.specs.declared.Refusal.the-variants as Why
 use Rattle.replies.specs.Answers.{refused, done}
 use Rattle.replies.specs.Outcomes.{Outcome, leaves}
 use Rattle.makes.specs.Calls.{formatOf, newTo, newEditionIn, newEditionOf, shareTo, shareHeld, shareIn, shareOf}
 use Rattle.makes.proofs.FormatLaws.{format-done, format-short, format-degree, format-sizes}
 use Rattle.makes.proofs.EditionLaws.{new-at, new-none, share-at, share-none-free, share-held, share-not-held}
-use Rattle.replies.proofs.Tables.{End, Gives, HeaderNumbered, Held, Numbered, Row, by-held, end, gives-done, gives-refusal, header-numbered, not-held-gives, numbered, row}
+use Rattle.replies.proofs.Tables.{AllHeld, End, Gives, HeaderNumbered, Held, Numbered, Row, by-free, by-held, end, gives-done, gives-refusal, header-numbered, not-held-gives, numbered, row}
 
 -- FORMAT
 module _ (a : List ℕ) (g b n s : ℕ) where
@@ -60,18 +58,7 @@ module _ (a : List ℕ) (g b n s : ℕ) where
       (row (λ w. gives-done (format-done a _ (w .0) (w .1) (w .2))) end))))
       (format-row (rowOf g) refl)
 
--- 7: "a new edition wanted, all S held"
-abbrev pub AllHeld : Shape → List ℕ → Type 0
-AllHeld z a = (i : ℕ) → i < z .slots → slotWord z a i 0 ≡ 1
-
-module _ {X : Type 0} (z : Shape) (a : List ℕ) where
-  by-free : (freeSlot z a ≡ NoneFree → AllHeld z a → X) → ((s : ℕ) → freeSlot z a ≡ At s → (AllHeld z a → ⊥) → X) → X
-  by-free none at = by (freeSlot z a) refl
-    where
-      by : (y : Slot) → freeSlot z a ≡ y → X
-      by NoneFree e = none e (free-slot-none z a e)
-      by (At s) e = let w = free-slot-lowest z a s e in at s e (λ all. w .not-held (all s (w .slot)))
-
+-- 7 or done, where an edition is put in the lowest free slot
 put-gives : (z : Shape) (a : List ℕ) (o : Outcome) (b : ℕ → List ℕ) → (freeSlot z a ≡ NoneFree → o ≡ leaves (refused Why.NoSlot) a)
     → ((s : ℕ) → freeSlot z a ≡ At s → o ≡ leaves (done s 0) (b s)) → (AllHeld z a → Gives a o 7) × ((AllHeld z a → ⊥) → Gives a o 0)
 put-gives z a o b none at = (

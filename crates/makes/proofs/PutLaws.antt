@@ -4,9 +4,9 @@
 use Prim.Native.Nat.{ℕ, _+_, _-_, _^_, _<_}
 use mathlib.Core.Path.{_≡_, sym, ap, _∙_, subst}
 use mathlib.Core.List.{List}
-use mathlib.Core.Logic.{_⊎_, inl, inr, ⊎-elim}
+use mathlib.Core.Logic.{⊎-elim}
 use native.Mathlib.Omega.{arith}
-use Rattle.cases.proofs.Cases.{split, eq?, lt?}
+use Rattle.cases.proofs.Cases.{split, lt?}
 use Rattle.counts.proofs.CountLaws.{upd-at}
 use Rattle.segments.specs.Segments.{segment}
 use Rattle.trie.specs.Trie.{Map, size}
@@ -15,15 +15,16 @@ use Rattle.trie.specs.Built.{Built}
 use Rattle.layout.specs.declared.Shape.{Shape}
 use Rattle.layout.specs.Layout.{names, Lent}
 use Rattle.layout.specs.Header.{Header}
-use Rattle.layout.specs.Columns.{State, word, columns, setSlot, setSlotWords}
+use Rattle.layout.specs.Columns.{State, columns, setSlot, setSlotWords}
 use Rattle.layout.proofs.ColumnLaws.{slot-store}
 use Rattle.layout.proofs.HeaderLaws.{header-lent}
 use Rattle.arena.specs.Shows.{ShowsMap, Edition}
-use Rattle.arena.specs.Sound.{FreeSlot, HeldSlot, Sound}
-use Rattle.arena.specs.Local.{LocallySound, Grow, SameSlots}
-use Rattle.arena.proofs.Frames.{grow-refl, grow-trans, slots-refl, map-live, map-kept, SameSlot, slots-at, slot-trans, edition-kept}
+use Rattle.arena.specs.Sound.{Sound}
+use Rattle.arena.specs.Local.{Grow, SameSlots}
+use Rattle.arena.proofs.Frames.{grow-refl, grow-trans, slots-refl, map-live, map-kept, SameSlot, slots-at, slot-trans}
 use Rattle.arena.proofs.Steps.{grow-count, grow-slot, same-count, slot-other}
-use Rattle.arena.proofs.Equivalent.{sound-local, local-sound}
+use Rattle.arena.proofs.Shelved.{local-in}
+use Rattle.arena.proofs.Puts.{Beside, beside-keeps, beside-sound}
 use Rattle.cells.specs.Mirrors.{shareWords}
 use Rattle.cells.proofs.KeptLaws.{kept-trans, kept-lent, kept-header, share-kept, slots-kept}
 use Rattle.cells.proofs.StepColumns.{share-none, share-columns, share-full}
@@ -76,9 +77,12 @@ module _ (z : Shape) (a : List ℕ) (h : Header a z) (s r n : ℕ) (ls : s < z .
   pub put-header : Header b z
   put-header = kept-header (kept-trans (share-kept z a r) (slots-kept z c s 1 r n (lent .allowed .wide) ls)) h
 
+  put-beside : Beside z a b s
+  put-beside = record { before = h; after = put-header; away = fr; grow = grown; others = others }
+
   -- every other edition is the same named trie
   pub put-kept : (e : ℕ) (m : Map ℕ) → Edition z (columns z a) e m → Edition z (columns z b) e m
-  put-kept e m E = edition-kept grown (others e (λ q. fr (ap (columns z a .held) (sym q) ∙ E .held))) E
+  put-kept = beside-keeps put-beside
 
   -- and the slot holds the map
   module _ (m : Map ℕ) (sh : ShowsMap (columns z a) m r) (sz : n ≡ size m) where
@@ -94,33 +98,8 @@ module _ (z : Shape) (a : List ℕ) (h : Header a z) (s r n : ℕ) (ls : s < z .
         }
 
     -- SOUND STAYS SOUND
-    pub put-sound : Built (segment (z .bits)) (z .depths) (forget m) → (S : Sound a) → S .shape ≡ z → Sound b
-    put-sound bt S e = local-sound b (by (sound-local a S) e)
-      where
-        by : (L : LocallySound a) → L .shape ≡ z → LocallySound b
-        by L q =
-            let live : (r ≡ 0 → ⊥) → 0 < columns z a .count r = map-live (columns z a) m r sh in
-            let I = rw q at (L .local) in
-            let G = share-means r lent live (omega arith) I in
-            let fr' : columns z c .held s ≡ 1 → ⊥ = λ x. fr (sym (slots-at (G .slots) s .held-eq) ∙ x) in
-            let T = hold-means (λ x. 0) s r n lent-c ls fr' (G .local) in
-            record {
-              shape = z;
-              header = put-header;
-              slots =
-                  λ j lj.
-                  ⊎-elim
-                  (λ js. inr (rw js (record { map = m; edition = put-new; built = bt })))
-                  (λ ne. kept-slot j ne (rw q at (L .slots j (rw (sym q) at lj))))
-                  (eq? j s);
-              free = L .free;
-              local = T .local;
-            }
-          where
-            kept-slot : (j : ℕ) → (j ≡ s → ⊥) → FreeSlot (columns z a) j ⊎ HeldSlot z (columns z a) j
-                → FreeSlot (columns z b) j ⊎ HeldSlot z (columns z b) j
-            kept-slot j ne (inl f) =
-                let o = others j ne in
-                inl (record { not-held = o .held-eq ∙ f .not-held; no-root = o .root-eq ∙ f .no-root; no-size = o .size-eq ∙ f .no-size })
-            kept-slot j ne (inr k) =
-                inr (record { map = k .map; edition = edition-kept grown (others j ne) (k .edition); built = k .built })
+    pub put-sound : Built (segment (z .bits)) (z .depths) (forget m) → Sound a → Sound b
+    put-sound bt S =
+        let G = share-means r lent (map-live (columns z a) m r sh) (omega arith) (local-in a S z h .1) in
+        let T = hold-means (λ x. 0) s r n lent-c ls (λ x. fr (sym (slots-at (G .slots) s .held-eq) ∙ x)) (G .local) in
+        beside-sound put-beside (record { holds = put-new; built = bt }) (T .local) S

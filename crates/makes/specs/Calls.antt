@@ -12,18 +12,11 @@ use Rattle.layout.specs.Layout.{total}
 use Rattle.layout.specs.Header.{shapeOf, headerOf}
 use Rattle.layout.specs.Columns.{slotWord, setSlotWords}
 use Rattle.layout.specs.Blank.{blank}
-use Rattle.cells.specs.declared.Slot.{Slot}
-use Rattle.cells.specs.declared.Slot.the-variants.{At, NoneFree}
 use Rattle.cells.specs.Slots.{heldSlot, freeSlot}
 use Rattle.cells.specs.Mirrors.{shareWords}
 use Rattle.replies.specs.declared.Refusal.the-variants as Why
 use Rattle.replies.specs.Answers.{refused, done}
-use Rattle.replies.specs.Outcomes.{Outcome, leaves, onHeader}
-
--- 7: "a new edition wanted, all S held"
-unfoldable pub onSlot : Slot → Outcome → (ℕ → Outcome) → Outcome
-onSlot NoneFree x f = x
-onSlot (At s) x f = f s
+use Rattle.replies.specs.Outcomes.{Outcome, leaves, onHeader, onSlot}
 
 -- FORMAT. "Format tests in the order 1, 2, 3."
 unfoldable pub formatIn : List ℕ → Shaped → Outcome

@@ -1,16 +1,22 @@
-//! The answers on editions at one degree: that each line is what its letter asks for, and that the crate lists in the
-//! order of our segments.
+//! The answers on editions at one degree: that each line is what its letter asks for, that the crate lists in the order of
+//! our segments, and that each call, made on the shelf, answers the same and lists the same entries. Remove and drop are
+//! not on the shelf yet: from the first of them on, the calls of a run are not made.
+use crate::calls;
 use crate::score::count;
 use segments::Index;
 
-// What was read so far. `listing` is how many entries of a listing the next lines have still to show, and `last` the
-// hash of the one before them, where there is one.
+// What was read so far. `listing` is how many entries of a listing the next lines have still to show, `last` the hash of
+// the one before them, where there is one, and `place` where the next stands in what the shelf has listed. `passing` says
+// that the rest of the run is passed over.
 pub struct Tally {
     degree: u64,
     pub entries: u64,
+    pub performed: u64,
     listing: u64,
     is_first: bool,
     last: u64,
+    place: usize,
+    passing: bool,
 }
 
 // The tally after a line, and whether the line is right.
@@ -57,14 +63,22 @@ fn in_order(before: u64, behind: u64, degree: u64) -> bool {
     true
 }
 
+// Where the next entry of a listing stands. No listing has more than 1,024 words.
+fn behind(place: usize) -> usize {
+    if place < 1024 { place + 3 } else { place }
+}
+
 impl Tally {
     pub fn new(degree: u64) -> Self {
         Tally {
             degree: degree,
             entries: 0,
+            performed: 0,
             listing: 0,
             is_first: true,
             last: 0,
+            place: 0,
+            passing: true,
         }
     }
 
@@ -98,6 +112,7 @@ impl Tally {
     fn listed(mut self, number: u64, entries: u64) -> Self {
         self.listing = if number == 0 { entries } else { 0 };
         self.is_first = true;
+        self.place = 0;
         self
     }
 
@@ -107,26 +122,81 @@ impl Tally {
         tally.listed(numbers[3], numbers[4]).seen(called.right)
     }
 
-    fn entry(mut self, hash: u64, numbers: usize) -> Seen {
+    // An entry of a listing: in order, and what the shelf has listed there.
+    fn entry(mut self, out: &[u64], numbers: [u64; 8], length: usize) -> Seen {
         let left = self.listing;
-        let right = self.is_first || in_order(self.last, hash, self.degree);
+        let place = self.place;
+        let hash = numbers[0];
+        let ordered = self.is_first || in_order(self.last, hash, self.degree);
+        let listed = self.passing || calls::is_entry(out, place, numbers);
         self.entries = count(self.entries);
         self.is_first = false;
         self.last = hash;
+        self.place = behind(place);
         if left == 0 {
             return self.seen(false);
         }
         self.listing = left - 1;
-        self.seen(right && numbers == 3)
+        self.seen(ordered && listed && length == 3)
     }
 
-    pub fn line(self, letter: u8, numbers: [u64; 8], count: usize) -> Seen {
+    // Whether a call has the form that its letter asks for.
+    fn formed(self, letter: u8, numbers: [u64; 8], length: usize) -> Seen {
+        match letter {
+            b'f' => self.format(numbers[0], length),
+            b'l' => self.list(numbers, length),
+            _ => self.call(arguments(letter), length),
+        }
+    }
+
+    // A run begins with a format, and is passed over from the first call on that the shelf has not.
+    fn turned(mut self, letter: u8) -> Self {
+        match letter {
+            b'f' => self.passing = false,
+            b'r' | b'd' => self.passing = true,
+            _ => {}
+        }
+        self
+    }
+
+    fn perform(mut self, a: &mut [u64], out: &mut [u64], letter: u8, numbers: [u64; 8]) -> Seen {
+        self.performed = count(self.performed);
+        let reply = calls::make(a, out, letter, numbers);
+        self.seen(calls::is_answer(reply, numbers, arguments(letter)))
+    }
+
+    // A call: its form, and its answer where it can be made.
+    fn called(
+        self,
+        a: &mut [u64],
+        out: &mut [u64],
+        letter: u8,
+        numbers: [u64; 8],
+        length: usize,
+    ) -> Seen {
+        let formed = self.formed(letter, numbers, length);
+        let tally = formed.tally.turned(letter);
+        if tally.passing {
+            return tally.seen(formed.right);
+        }
+        let performed = tally.perform(a, out, letter, numbers);
+        let next = performed.tally;
+        next.seen(formed.right && performed.right)
+    }
+
+    // A line of so many numbers, on an arena and an output for the listings.
+    pub fn line(
+        self,
+        a: &mut [u64],
+        out: &mut [u64],
+        letter: u8,
+        numbers: [u64; 8],
+        length: usize,
+    ) -> Seen {
         match letter {
             b'#' | b't' => self.seen(true),
-            b'+' => self.entry(numbers[0], count),
-            b'f' => self.format(numbers[0], count),
-            b'l' => self.list(numbers, count),
-            _ => self.call(arguments(letter), count),
+            b'+' => self.entry(out, numbers, length),
+            _ => self.called(a, out, letter, numbers, length),
         }
     }
 }

@@ -1,6 +1,8 @@
-//! Replays the stored answers of rpds 1.2.1 that lie in its data folder, and prints how many calls there were and how many
-//! came out otherwise. The answers on the leaves of the shelf are compared with the leaves themselves. Of the answers on
-//! editions it sees that each file is whole, and that what the crate lists stands in the order of our segments.
+//! Replays the stored answers of rpds 1.2.1 that lie in its data folder, and prints how many calls and lines there were and
+//! how many lines came out otherwise. The answers on the leaves of the shelf are compared with the leaves themselves. The
+//! calls on editions are made on the shelf, over an arena of words, as far as the shelf has them; it also sees that each
+//! file is whole, and that what the crate lists stands in the order of our segments.
+mod calls;
 mod editions;
 mod leaves;
 mod score;
@@ -21,7 +23,7 @@ struct After {
     right: bool,
 }
 
-fn take_line(file: File, words: &mut [u64], line: Line) -> After {
+fn take_line(file: File, words: &mut [u64], out: &mut [u64], line: Line) -> After {
     let numbers = line.numbers;
     match file {
         File::Leaves(tally) => {
@@ -33,7 +35,7 @@ fn take_line(file: File, words: &mut [u64], line: Line) -> After {
             }
         }
         File::Editions(tally) => {
-            let seen = tally.line(line.letter, numbers, line.count);
+            let seen = tally.line(words, out, line.letter, numbers, line.count);
             let next = seen.tally;
             After {
                 file: File::Editions(next),
@@ -43,16 +45,21 @@ fn take_line(file: File, words: &mut [u64], line: Line) -> After {
     }
 }
 
+fn show_editions(tally: editions::Tally) {
+    print::decimal(b": entries listed ", tally.entries);
+    print::decimal(b", made on the shelf ", tally.performed);
+}
+
 fn show(file: File, score: Score) {
     match file {
         File::Leaves(tally) => print::decimal(b": index_from_hash ", tally.indexes),
-        File::Editions(tally) => print::decimal(b": entries listed ", tally.entries),
+        File::Editions(tally) => show_editions(tally),
     }
     score.show();
 }
 
-// Replays the lines of a file, with words for what they are replayed on.
-fn replay(text: &[u8], words: &mut [u64], first: File) {
+// Replays the lines of a file, with words for what they are replayed on, and an output for what is listed.
+fn replay(text: &[u8], words: &mut [u64], out: &mut [u64], first: File) {
     let mut file = first;
     let mut score = Score::new();
     let mut at = 0;
@@ -60,7 +67,7 @@ fn replay(text: &[u8], words: &mut [u64], first: File) {
         let line = answers::read_line(text, at);
         at = line.next;
         let numbers = line.numbers;
-        let after = take_line(file, words, line);
+        let after = take_line(file, words, out, line);
         file = after.file;
         score = score.line(line.letter, numbers[0], after.right);
     }
@@ -81,21 +88,42 @@ fn read(name: &[u8], text: &mut [u8]) -> usize
     length
 }
 
-// A sparse array has at most 64 words.
-fn replay_file(name: &[u8], file: File) {
+fn replay_file(name: &[u8], words: &mut [u64], file: File) {
     let mut text = io::large_buffer();
-    let mut words = [0u64; 64];
+    let mut out = [0u64; 1024];
     let length = read(name, &mut text);
     print::say(name);
-    replay(&text[..length], &mut words, file);
+    replay(&text[..length], words, &mut out, file);
+}
+
+// A sparse array has at most 64 words.
+fn replay_leaves(name: &[u8]) {
+    let mut words = [0u64; 64];
+    replay_file(name, &mut words, File::Leaves(leaves::Tally::new()));
+}
+
+// No arena of the stored answers has more words.
+fn replay_editions(name: &[u8], degree: u64) {
+    let mut words = [0u64; 8192];
+    replay_file(
+        name,
+        &mut words,
+        File::Editions(editions::Tally::new(degree)),
+    );
 }
 
 fn main() {
-    replay_file(b"leaves", File::Leaves(leaves::Tally::new()));
-    replay_file(b"degree_02", File::Editions(editions::Tally::new(2)));
-    replay_file(b"degree_04", File::Editions(editions::Tally::new(4)));
-    replay_file(b"degree_08", File::Editions(editions::Tally::new(8)));
-    replay_file(b"degree_16", File::Editions(editions::Tally::new(16)));
-    replay_file(b"degree_32", File::Editions(editions::Tally::new(32)));
-    replay_file(b"degree_64", File::Editions(editions::Tally::new(64)));
+    replay_leaves(b"leaves");
+    replay_editions(b"degree_02", 2);
+    replay_editions(b"degree_04", 4);
+    replay_editions(b"degree_08", 8);
+    replay_editions(b"degree_16", 16);
+    replay_editions(b"degree_32", 32);
+    replay_editions(b"degree_64", 64);
+    replay_editions(b"grows_02", 2);
+    replay_editions(b"grows_04", 4);
+    replay_editions(b"grows_08", 8);
+    replay_editions(b"grows_16", 16);
+    replay_editions(b"grows_32", 32);
+    replay_editions(b"grows_64", 64);
 }

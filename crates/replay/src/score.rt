@@ -1,7 +1,8 @@
-//! How a file of stored answers came out: how many calls it has, how many of its lines are wrong, and whether its last line
-//! says the same number of calls.
+//! How a file of stored answers came out: how many calls and lines it has, how many of the lines are wrong, and whether the
+//! last line says the same number of calls.
 
 pub struct Score {
+    lines: u64,
     calls: u64,
     wrong: u64,
     // what the last line says of the calls; the largest number before that is read
@@ -16,6 +17,7 @@ pub fn count(n: u64) -> u64 {
 impl Score {
     pub fn new() -> Self {
         Score {
+            lines: 0,
             calls: 0,
             wrong: 0,
             total: u64::MAX,
@@ -40,7 +42,8 @@ impl Score {
     }
 
     // A line, by its letter and its first number: a comment, a part of the answer above it, the last line, or a call.
-    pub fn line(self, letter: u8, number: u64, right: bool) -> Self {
+    pub fn line(mut self, letter: u8, number: u64, right: bool) -> Self {
+        self.lines = count(self.lines);
         match letter {
             b'#' => self,
             b'+' => self.see(right),
@@ -51,6 +54,7 @@ impl Score {
 
     pub fn show(self) {
         print::decimal(b", calls ", self.calls);
+        print::decimal(b", lines ", self.lines);
         print::decimal(b", wrong ", self.wrong);
         if self.calls != self.total {
             print::say(b", not whole");

@@ -2,7 +2,9 @@
 use Rattle.layout.specs.declared.Shape.{Shape}
 use Rattle.layout.specs.declared.Heading.{Heading}
 use Rattle.layout.specs.declared.Heading.the-variants.{Right, Wrong}
-use Rattle.replies.specs.Outcomes.{onHeader}
+use Rattle.cells.specs.declared.Slot.{Slot}
+use Rattle.cells.specs.declared.Slot.the-variants.{At, NoneFree}
+use Rattle.replies.specs.Outcomes.{Outcome, onHeader, onSlot}
 use Prim.Native.Nat.{ℕ, _<_}
 use mathlib.Core.Path.{_≡_, ap}
 use native.Mathlib.Omega.{arith}
@@ -38,3 +40,12 @@ header-right y x f z e = rw e
 pub header-wrong : {A : Type 0} (y : Heading) (x : A) (f : Shape → A) → y ≡ Wrong → onHeader y x f ≡ x
 unfolding onHeader
 header-wrong y x f e = rw e
+
+-- THE CASES OF A SLOT
+pub slot-at : (y : Slot) (x : Outcome) (f : ℕ → Outcome) (s : ℕ) → y ≡ At s → onSlot y x f ≡ f s
+unfolding onSlot
+slot-at y x f s e = rw e
+
+pub slot-none : (y : Slot) (x : Outcome) (f : ℕ → Outcome) → y ≡ NoneFree → onSlot y x f ≡ x
+unfolding onSlot
+slot-none y x f e = rw e

@@ -15,11 +15,13 @@ use Rattle.layout.specs.declared.Heading.the-variants.{Right, Wrong}
 use Rattle.layout.specs.Header.{Header, headerOf}
 use Rattle.layout.specs.Columns.{slotWord}
 use Rattle.layout.proofs.HeaderLaws.{header-says, header-once}
-use Rattle.cells.specs.Slots.{heldSlot}
-use Rattle.cells.proofs.SlotLaws.{held-says, held-is}
+use Rattle.cells.specs.declared.Slot.{Slot}
+use Rattle.cells.specs.declared.Slot.the-variants.{At, NoneFree}
+use Rattle.cells.specs.Slots.{heldSlot, freeSlot}
+use Rattle.cells.proofs.SlotLaws.{held-says, held-is, free-slot-lowest, free-slot-none}
 use Rattle.replies.specs.declared.Refusal.{Refusal}
 use Rattle.replies.specs.declared.Refusal.the-variants as Why
-use Rattle.replies.specs.Answers.{Answer, numberOf, refused, done}
+use Rattle.replies.specs.Answers.{Answer, numberOf, refused, done, doneTaking}
 use Rattle.replies.specs.Outcomes.{Outcome, leaves, onHeader}
 use Rattle.replies.proofs.AnswerLaws.{header-right, header-wrong}
 
@@ -48,8 +50,11 @@ pub record Gives (a : List ℕ) (o : Outcome) (k : ℕ) : Type 0 where
   pub unaltered : (k ≡ 0 → ⊥) → Unaltered a o
 
 module _ {a : List ℕ} {o : Outcome} where
+  pub gives-taking : {s x y : ℕ} {b : List ℕ} → o ≡ leaves (doneTaking s x y) b → Gives a o 0
+  gives-taking e = record { is = ap number e; unaltered = λ ne. absurd (ne refl) }
+
   pub gives-done : {x y : ℕ} {b : List ℕ} → o ≡ leaves (done x y) b → Gives a o 0
-  gives-done e = record { is = ap number e; unaltered = λ ne. absurd (ne refl) }
+  gives-done e = gives-taking e
 
   pub gives-refusal : (why : Refusal) → o ≡ leaves (refused why) a → Gives a o (numberOf why)
   gives-refusal why e = record { is = ap number e; unaltered = λ ne. rw e (refl, refl, refl, refl) }
@@ -86,9 +91,9 @@ abbrev pub read : List ℕ → Answer → Outcome
 read a x = leaves x a
 
 module _ {A : Type 0} (a b : List ℕ) (see : A → Outcome) (When : Shape → ℕ → Type 0) (x : A) (f : Shape → A) where
-  pub header-numbered : see x ≡ leaves (refused Why.Damaged) b → ((z : Shape) → When z 4 → ⊥)
-      → ((z : Shape) → Numbered b (When z) (see (f z))) → HeaderNumbered a b When (see (onHeader (headerOf a) x f))
-  header-numbered wrong no-4 numbers = by (headerOf a) refl
+  pub right-numbered : see x ≡ leaves (refused Why.Damaged) b → ((z : Shape) → When z 4 → ⊥)
+      → ((z : Shape) → Header a z → Numbered b (When z) (see (f z))) → HeaderNumbered a b When (see (onHeader (headerOf a) x f))
+  right-numbered wrong no-4 numbers = by (headerOf a) refl
     where
       by : (y : Heading) → headerOf a ≡ y → HeaderNumbered a b When (see (onHeader (headerOf a) x f))
       by Wrong e =
@@ -102,13 +107,32 @@ module _ {A : Type 0} (a b : List ℕ) (see : A → Outcome) (When : Shape → �
           }
       by (Right z) e =
           let h = header-says a z .0 e in
-          let N : Numbered b (When z) (see (onHeader (headerOf a) x f)) = rw (header-right (headerOf a) x f z e) (numbers z) in
+          let N : Numbered b (When z) (see (onHeader (headerOf a) x f)) = rw (header-right (headerOf a) x f z e) (numbers z h) in
           record {
             damaged = (λ q. absurd (no-4 z (N .exactly 4 .0 q)), λ d. absurd (d z h));
             right = λ ne. (z, h);
             exactly = λ y k. rw (header-once a y z k h) (N .exactly);
             refusal = N .refusal;
           }
+
+  pub header-numbered : see x ≡ leaves (refused Why.Damaged) b → ((z : Shape) → When z 4 → ⊥)
+      → ((z : Shape) → Numbered b (When z) (see (f z))) → HeaderNumbered a b When (see (onHeader (headerOf a) x f))
+  header-numbered wrong no-4 numbers = right-numbered wrong no-4 (λ z h. numbers z)
+
+-- the same table in other words
+pub renumbered : {a b : List ℕ} {When Then : Shape → ℕ → Type 0} {o : Outcome}
+    → ((z : Shape) → Header a z → (k : ℕ) → When z k ↔ Then z k) → HeaderNumbered a b When o → HeaderNumbered a b Then o
+renumbered same N =
+    record {
+      damaged = N .damaged;
+      right = N .right;
+      exactly =
+          λ z h k.
+          let w = same z h k in
+          let e = N .exactly z h k in
+          (λ q. w .0 (e .0 q), λ t. e .1 (w .1 t));
+      refusal = N .refusal;
+    }
 
 -- 5: "number not below S, or not held"
 abbrev pub Held : Shape → List ℕ → ℕ → Type 0
@@ -123,3 +147,15 @@ module _ {X : Type 0} (z : Shape) (a : List ℕ) (e : ℕ) where
 pub not-held-gives : (z : Shape) (a b : List ℕ) (e : ℕ) (o : Outcome) → (heldSlot z a e ≡ false → o ≡ leaves (refused Why.NoSuchEdition) b)
     → (Held z a e → ⊥) → Gives b o 5
 not-held-gives z a b e o not n = by-held z a e (λ q h. absurd (n h)) (λ q m. gives-refusal Why.NoSuchEdition (not q))
+
+-- 7: "a new edition wanted, all S held"
+abbrev pub AllHeld : Shape → List ℕ → Type 0
+AllHeld z a = (i : ℕ) → i < z .slots → slotWord z a i 0 ≡ 1
+
+module _ {X : Type 0} (z : Shape) (a : List ℕ) where
+  pub by-free : (freeSlot z a ≡ NoneFree → AllHeld z a → X) → ((s : ℕ) → freeSlot z a ≡ At s → (AllHeld z a → ⊥) → X) → X
+  by-free none at = by (freeSlot z a) refl
+    where
+      by : (y : Slot) → freeSlot z a ≡ y → X
+      by NoneFree e = none e (free-slot-none z a e)
+      by (At s) e = let w = free-slot-lowest z a s e in at s e (λ all. w .not-held (all s (w .slot)))

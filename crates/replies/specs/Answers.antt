@@ -6,6 +6,8 @@ use Rattle.replies.specs.declared.Formatted.{Formatted}
 use Rattle.replies.specs.declared.Formatted.the-variants as F
 use Rattle.replies.specs.declared.Made.{Made}
 use Rattle.replies.specs.declared.Made.the-variants as M
+use Rattle.replies.specs.declared.Updated.{Updated}
+use Rattle.replies.specs.declared.Updated.the-variants as W
 use Rattle.replies.specs.declared.Counted.{Counted}
 use Rattle.replies.specs.declared.Counted.the-variants as C
 use Rattle.replies.specs.declared.Found.{Found}
@@ -45,6 +47,10 @@ refused r = answer (numberOf r) 0 0 0
 abbrev pub done : ℕ → ℕ → Answer
 done x y = answer 0 x y 0
 
+-- "The answer reports the cells taken of each kind", beside the edition
+abbrev pub doneTaking : ℕ → ℕ → ℕ → Answer
+doneTaking e b n = answer 0 e b n
+
 abbrev pub formatted : Formatted → Answer
 formatted F.Done = done 0 0
 formatted (F.Refused r) = refused r
@@ -52,6 +58,10 @@ formatted (F.Refused r) = refused r
 abbrev pub made : Made → Answer
 made (M.Edition e) = done e 0
 made (M.Refused r) = refused r
+
+abbrev pub updated : Updated → Answer
+updated (W.Edition e b n) = doneTaking e b n
+updated (W.Refused r) = refused r
 
 abbrev pub counted : Counted → Answer
 counted (C.Entries n) = done n 0

@@ -5,6 +5,8 @@ use Prim.Native.Nat.{ℕ}
 use Rattle.layout.specs.declared.Shape.{Shape}
 use Rattle.layout.specs.declared.Heading.{Heading}
 use Rattle.layout.specs.declared.Heading.the-variants.{Right, Wrong}
+use Rattle.cells.specs.declared.Slot.{Slot}
+use Rattle.cells.specs.declared.Slot.the-variants.{At, NoneFree}
 use Rattle.replies.specs.Answers.{Answer}
 
 -- an answer, and the words of the arena afterwards; for a listing, which writes no arena, those of the output
@@ -19,3 +21,8 @@ leaves r b = record { answer = r; words = b }
 unfoldable pub onHeader : {A : Type 0} → Heading → A → (Shape → A) → A
 onHeader Wrong x f = x
 onHeader (Right z) x f = f z
+
+-- 7: "a new edition wanted, all S held"
+unfoldable pub onSlot : Slot → Outcome → (ℕ → Outcome) → Outcome
+onSlot NoneFree x f = x
+onSlot (At s) x f = f s

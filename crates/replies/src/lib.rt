@@ -54,6 +54,16 @@ pub enum Made {
     Refused(Refusal),
 }
 
+// An update puts an edition in a slot, and takes cells of each kind.
+pub enum Updated {
+    Edition {
+        edition: u64,
+        branches: u64,
+        entries: u64,
+    },
+    Refused(Refusal),
+}
+
 pub enum Counted {
     Entries(u64),
     Refused(Refusal),

@@ -15,7 +15,9 @@ pub use replies::Found;
 pub use replies::InUse;
 pub use replies::Made;
 pub use replies::Refusal;
+pub use replies::Updated;
 ghost use Rattle.makes.specs.Contracts.{Formats, MakesNew, Shares};
+ghost use Rattle.updates.specs.Contracts.{Inserts, Changes};
 ghost use Rattle.looks.specs.Contracts.{Sizes, Uses, Gets, Lists, Compares};
 
 // Makes an arena of the words: all cells free, no edition held. Words beyond the total stay as they are.
@@ -42,6 +44,27 @@ pub fn share(a: &mut [u64], edition: u64) -> Made
     match header::read(&*a) {
         Heading::Right(z) => makes::share(a, z, edition),
         Heading::Wrong => Made::Refused(Refusal::Damaged),
+    }
+}
+
+// An edition with an entry put in it, in the lowest free slot; the old edition stays as it is. Answers the new edition, and
+// how many branch cells and entry cells it took: the rest is shared.
+pub fn insert(a: &mut [u64], edition: u64, hash: u64, key: u64, value: u64) -> Updated
+    ensures { λ r. ⌜ Inserts (now (a .entry)) edition hash key value r (now (a .exit)) ⌝ }
+{
+    match header::read(&*a) {
+        Heading::Right(z) => updates::insert(a, z, edition, hash, key, value),
+        Heading::Wrong => Updated::Refused(Refusal::Damaged),
+    }
+}
+
+// An edition with another value for a key that it has; else as an insert.
+pub fn change(a: &mut [u64], edition: u64, hash: u64, key: u64, value: u64) -> Updated
+    ensures { λ r. ⌜ Changes (now (a .entry)) edition hash key value r (now (a .exit)) ⌝ }
+{
+    match header::read(&*a) {
+        Heading::Right(z) => updates::change(a, z, edition, hash, key, value),
+        Heading::Wrong => Updated::Refused(Refusal::Damaged),
     }
 }
 

@@ -2,6 +2,7 @@ pub mod Matches
 pub mod KidsLaws
 pub mod ChainLaws
 pub mod PathLaws
+pub mod CopyLaws
 pub mod InsertCases
 pub mod InsertCanon
 pub mod RemoveCases

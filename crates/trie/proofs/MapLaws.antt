@@ -134,6 +134,16 @@ module _ (seg : ℕ → ℕ → ℕ) (d : ℕ) (W : Entry → Type 0) {X : Type 
       ∙ ap (λ (o : Got). length (place seg (suc d) 0 e (listing m)) + ifGot o 1 0) (sym (map-listing-get m c (e .hash) (e .key)))
       ∙ place-length seg (suc d) 0 e (listing m)
 
+  pub size-insert-there : (b f : ℕ → X) (e : Entry) (m : Map X) (v : ℕ) → Good m
+      → get seg (suc d) (e .hash) (e .key) m ≡ got v → size (insert seg (suc d) b f e m) ≡ size m
+  unfolding ifGot
+  size-insert-there b f e m v c q = omega (arith, rw q at (size-insert b f e m c))
+
+  pub size-insert-new : (b f : ℕ → X) (e : Entry) (m : Map X) → Good m
+      → get seg (suc d) (e .hash) (e .key) m ≡ absent → size (insert seg (suc d) b f e m) ≡ suc (size m)
+  unfolding ifGot
+  size-insert-new b f e m c q = omega (arith, rw q at (size-insert b f e m c))
+
   got-removal : (b f : ℕ → X) (h k : ℕ) {m m' : Map X} → Removal b f h k m m' → (v : ℕ) × (get seg (suc d) h k m ≡ got v)
   unfolding get
   got-removal b f h k (taken-out n v g) = (v, g)

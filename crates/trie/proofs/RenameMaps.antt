@@ -1,14 +1,15 @@
 -- Names play no part, for maps: renaming commutes with insert, change and remove, and get, the listing, the cells taken and
 -- what is canonical stay as they are. With one name for all cells this is forgetting them.
-use mathlib.Core.Path.{_≡_, refl, _∙_, ap}
+use mathlib.Core.Path.{_≡_, refl, sym, _∙_, ap}
 use mathlib.Core.Logic.{_↔_}
 use mathlib.Core.List.{[], _∷_}
 use Prim.Native.Nat.{ℕ}
 use lib.ListN.{length}
+use Rattle.trie.specs.Built.{unnamed}
 use Rattle.trie.specs.Canon.{Canonical}
 use Rattle.trie.specs.Cells.{before, branchesOn, standBefore, insertTakes, leftTakes, removeTakes}
 use Rattle.trie.specs.Entry.{Entry, Got, absent, got, ifGot}
-use Rattle.trie.specs.Names.{renameItems, renameNode, rename, renameUpdated}
+use Rattle.trie.specs.Names.{renameItems, renameNode, rename, renameUpdated, forget}
 use Rattle.trie.specs.Trie.{branch, leaf, chain, Node, none, kid, empty, root, Map, getNode, is-empty, removeNode, listing, size, remove, Updated, not-there, updated, tidy, get, insert, change}
 use Rattle.trie.proofs.RenameCanon.{root-rename}
 use Rattle.trie.proofs.RenameNodes.{insert-rename, remove-rename, before-rename, chain-rename, get-rename, along-rename, listing-rename}
@@ -102,3 +103,11 @@ module _ {X Y : Type 0} (g : X → Y) where
   unfolding Canonical rename
   rename-canonical seg W d empty = (λ a. a, λ a. a)
   rename-canonical seg W d (root m) = root-rename g seg W d m
+
+-- THE CELLS TAKEN do not depend on names: neither on those of the trie nor on the new ones
+module _ (seg : ℕ → ℕ → ℕ) (d : ℕ) {X : Type 0} (b f : ℕ → X) (m : Map X) where
+  pub insert-takes-forget : (e : Entry) → insertTakes seg d b f e m ≡ insertTakes seg d unnamed unnamed e (forget m)
+  insert-takes-forget e = sym (rename-insert-takes (λ c. tt) seg d b f e m)
+
+  pub takes-any-names : (b' f' : ℕ → X) (e : Entry) → insertTakes seg d b f e m ≡ insertTakes seg d b' f' e m
+  takes-any-names b' f' e = insert-takes-forget e ∙ rename-insert-takes (λ c. tt) seg d b' f' e m

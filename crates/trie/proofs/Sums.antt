@@ -1,16 +1,18 @@
--- Sums of a weight over the names of chains and of children: what a removal from a chain, put and take-out do to them.
+-- Sums of a weight over the names of chains and of children: what a removal from a chain, put and take-out do to them. With the
+-- weight 1 the sum over the entries is the size.
 use mathlib.Core.Path.{_≡_, refl, sym, _∙_, ap}
 use mathlib.Core.Bool.{true}
 use mathlib.Core.Logic.{_⊎_, inl, inr, ⊎-elim}
 use mathlib.Core.List.{List, [], _∷_}
 use Prim.Native.Nat.{ℕ, zero, suc, _+_, _≤_}
 use native.Mathlib.Omega.{arith}
+use lib.ListN.{length, length-append}
 use Rattle.cases.proofs.Cases.{split, eq?, Tri, is-less, is-equal, is-more, tri}
 use Rattle.trie.specs.Canon.{Asc}
 use Rattle.trie.specs.Cells.{before, ahead}
 use Rattle.trie.specs.Entry.{matches, Got, absent, got, ifGot}
-use Rattle.trie.specs.Names.{cells, total, totals, news, upto, gone}
-use Rattle.trie.specs.Trie.{branch, Item, Node, Kids, none, kid, missing, found, onFound, child, put, take-out, find, copied, list-remove-first}
+use Rattle.trie.specs.Names.{cells, total, totals, entrySum, onMap, news, upto, gone}
+use Rattle.trie.specs.Trie.{branch, leaf, Item, Node, Kids, none, kid, Map, empty, root, listingChain, listingNode, listingKids, listing, size, missing, found, onFound, child, put, take-out, find, copied, list-remove-first}
 use Rattle.trie.proofs.ChainLaws.{find-hit, copied-hit, copied-miss}
 use Rattle.trie.proofs.KidsLaws.{child-hit, child-miss, put-hit, put-less, put-more, take-hit, take-miss, child-above, above-asc}
 
@@ -133,3 +135,27 @@ module _ {X : Type 0} (u : X → ℕ) (v : List (Item X) → ℕ) where
     where
       split-eq : {A : Type 0} → (i ≡ s → A) → ((i ≡ s → ⊥) → A) → A
       split-eq f g = mathlib.Core.Logic.⊎-elim f g (eq? i s)
+
+-- HOW MANY ENTRIES: each of them counts once, in the listing as in the sum over the entry cells
+module _ {X : Type 0} where
+  chain-count : (xs : List (Item X)) → length (listingChain xs) ≡ cells (λ c. 1) xs
+  unfolding listingChain cells
+  chain-count [] = refl
+  chain-count (x ∷ xs) = omega (arith, chain-count xs)
+
+  mutual
+    unfolding listingNode total
+
+    node-count : (m : Node X) → length (listingNode m) ≡ entrySum (λ c. 1) m
+    node-count (leaf xs) = chain-count xs
+    node-count (branch c ks) = omega (arith, kids-count ks)
+
+    kids-count : (ks : Kids X) → length (listingKids ks) ≡ totals (λ c. 0) (cells (λ c. 1)) ks
+    kids-count none = refl
+    kids-count (kid s m ks) =
+        omega (arith, length-append (listingNode m) (listingKids ks), node-count m, kids-count ks)
+
+  pub size-count : (m : Map X) → size m ≡ onMap (entrySum (λ c. 1)) m
+  unfolding size listing onMap
+  size-count empty = refl
+  size-count (root m) = node-count m

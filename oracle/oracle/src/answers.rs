@@ -1,20 +1,20 @@
 //! The stored answers: for each degree a file of calls with what the crate answers to them, small runs that show one thing
-//! each and then random ones; and a file for the modules below the trie.
+//! each and then random ones; a second one whose calls only make editions; and a file for the modules below the trie.
 use crate::calls::{Call, Cells, number};
 use crate::random::Random;
 use crate::recorder::{Recorder, change, insert, remove};
 use crate::runs::{Hashes, Pair, Player, pool};
-use crate::{DEGREES, leaves, paper};
+use crate::{DEGREES, grows, leaves, paper};
 
 /// No file has more bytes.
 const MOST_BYTES: usize = 65536;
 
 // The entries of the shelf table.
-const A: Pair = (0x26, 1);
-const B: Pair = (0x16, 2);
-const C: Pair = (0x42, 3);
-const D: Pair = (0x7000_0000_0000_0008, 4);
-const E: Pair = (0x7000_0000_0000_0008, 5);
+pub(crate) const A: Pair = (0x26, 1);
+pub(crate) const B: Pair = (0x16, 2);
+pub(crate) const C: Pair = (0x42, 3);
+pub(crate) const D: Pair = (0x7000_0000_0000_0008, 4);
+pub(crate) const E: Pair = (0x7000_0000_0000_0008, 5);
 
 /// K1 to K10 and "Also run". At degree 16 they are document 01's; at another they are what the crate answers there.
 fn shelf_table(to: &mut Recorder) {
@@ -347,7 +347,9 @@ fn file(degree: u64, seed: u64) -> String {
 /// The files, each with its name.
 pub fn files(seed: u64) -> Vec<(String, String)> {
     let degrees = DEGREES.map(|degree| (format!("degree_{degree:02}"), file(degree, seed)));
-    let files: Vec<_> = degrees.into_iter().chain([("leaves".to_string(), leaves::file(seed))]).collect();
+    let growing = DEGREES.map(|degree| (format!("grows_{degree:02}"), grows::file(degree, seed)));
+    let leaves = [("leaves".to_string(), leaves::file(seed))];
+    let files: Vec<_> = degrees.into_iter().chain(growing).chain(leaves).collect();
     for (name, text) in &files {
         assert!(text.len() <= MOST_BYTES, "{name} has {} bytes", text.len());
     }

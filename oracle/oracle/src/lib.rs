@@ -12,6 +12,7 @@ pub mod drive;
 pub mod exhaust;
 #[cfg(test)]
 mod faults;
+pub mod grows;
 pub mod leaves;
 pub mod paper;
 pub mod random;

@@ -5,7 +5,7 @@ use crate::runs::Pair;
 use crate::text::answered;
 
 /// No arena of the stored answers has more words.
-const MOST_WORDS: u64 = 8192;
+pub const MOST_WORDS: u64 = 8192;
 /// No listing asks for more words of room.
 const MOST_ROOM: u64 = 1024;
 
@@ -19,6 +19,7 @@ pub struct Recorder {
     pub calls: u64,
     /// The shelves that the calls are made on.
     pub both: Both,
+    made: Vec<Call>,
     most_in_use: Cells,
 }
 
@@ -30,7 +31,8 @@ fn words(degree: u64, room: Cells, editions: u64) -> u64 {
 impl Recorder {
     /// Nothing called yet.
     pub fn new(degree: u64) -> Recorder {
-        Recorder { degree, text: String::new(), calls: 0, both: Both::default(), most_in_use: Cells::default() }
+        let (text, made, most_in_use) = (String::new(), Vec::new(), Cells::default());
+        Recorder { degree, text, calls: 0, both: Both::default(), made, most_in_use }
     }
 
     /// Makes a call. A difference between the crate and document 01 ends the program.
@@ -39,6 +41,7 @@ impl Recorder {
         let answer = self.both.call(&call).unwrap_or_else(|what| panic!("degree {}: {call:?}: {what}", self.degree));
         self.text += &answered(&call, &answer);
         self.calls += 1;
+        self.made.push(call);
         let in_use = self.both.rpds.in_use();
         self.most_in_use.branches = self.most_in_use.branches.max(in_use.branches);
         self.most_in_use.entries = self.most_in_use.entries.max(in_use.entries);
@@ -61,16 +64,22 @@ impl Recorder {
     pub fn format(&mut self, room: Cells, editions: u64) {
         let Cells { branches, entries } = room;
         self.done(Call::Format { degree: self.degree, branches, entries, editions });
+        self.made.clear();
         self.most_in_use = Cells::default();
+    }
+
+    /// The calls of a script that is not short of cells, and how many cells they need.
+    pub fn rehearsed(degree: u64, editions: u64, script: impl Fn(&mut Recorder)) -> (Vec<Call>, Cells) {
+        let mut first = Recorder::new(degree);
+        first.format(Cells { branches: 1 << 20, entries: 1 << 22 }, editions);
+        script(&mut first);
+        let Cells { branches, entries } = first.most_in_use;
+        (first.made, Cells { branches: branches.max(1), entries: entries.max(1) })
     }
 
     /// A run in an arena with exactly the cells that it needs: a first go on a large one finds how many those are.
     pub fn run(&mut self, title: &str, editions: u64, script: impl Fn(&mut Recorder)) -> Cells {
-        let mut first = Recorder::new(self.degree);
-        first.format(Cells { branches: 1 << 20, entries: 1 << 22 }, editions);
-        script(&mut first);
-        let Cells { branches, entries } = first.most_in_use;
-        let room = Cells { branches: branches.max(1), entries: entries.max(1) };
+        let (_, room) = Recorder::rehearsed(self.degree, editions, &script);
         self.run_within(title, room, editions, script);
         room
     }

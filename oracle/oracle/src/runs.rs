@@ -58,6 +58,8 @@ pub struct Player {
     reads: u64,
     updates: u64,
     updates_made: u64,
+    /// whether editions only come: none is dropped, and no entry is taken out
+    grows: bool,
     /// the edition that the run goes on from; others are made on the side
     newest: u64,
 }
@@ -65,7 +67,12 @@ pub struct Player {
 impl Player {
     /// A player of a run of so many updates: it grows an edition, changes it, and takes it down again.
     pub fn new(pool: Vec<Pair>, updates: u64, reads: u64, random: Random) -> Player {
-        Player { pool, random, reads, updates, updates_made: 0, newest: 0 }
+        Player { pool, random, reads, updates, updates_made: 0, grows: false, newest: 0 }
+    }
+
+    /// A player whose run has no drop and no removal, and goes on from older editions as often as from the newest.
+    pub fn growing(pool: Vec<Pair>, updates: u64, reads: u64, random: Random) -> Player {
+        Player { grows: true, ..Player::new(pool, updates, reads, random) }
     }
 
     /// Tells the player what a call answered.
@@ -92,7 +99,7 @@ impl Player {
             self.newest = *self.random.of(&held);
         }
         let is_full = held.len() == shelf.editions();
-        if held.len() > 1 && self.random.percent(if is_full { 90 } else { 20 }) {
+        if !self.grows && held.len() > 1 && self.random.percent(if is_full { 90 } else { 20 }) {
             let edition = *self.random.of(&held);
             if edition != self.newest || self.random.percent(5) {
                 return Some(Call::Drop { edition });
@@ -100,7 +107,7 @@ impl Player {
         }
         let edition = match self.random.below(100) {
             0 => self.random.below(2 * shelf.editions() as u64),
-            1..15 => *self.random.of(&held),
+            roll if roll < if self.grows { 50 } else { 15 } => *self.random.of(&held),
             _ => self.newest,
         };
         Some(match self.random.below(100) {
@@ -134,9 +141,10 @@ impl Player {
     }
 
     /// Half of the updates grow the edition, the first of them without a removal; a quarter keeps its size, and a quarter
-    /// takes it down.
+    /// takes it down. Where editions only come, all of them grow it or keep its size.
     fn update<T: Trie>(&mut self, shelf: &Shelf<T>, edition: u64) -> Call {
         let (inserts, changes) = match self.updates_made * 4 / self.updates {
+            _ if self.grows => (70, 30),
             0 => (85, 15),
             1 => (75, 10),
             2 => (30, 30),

@@ -1,5 +1,5 @@
 //! The stored answers: made anew they are the same, and the driver gives each back as it is.
-use oracle::{answers, drive};
+use oracle::{DEGREES, answers, drive};
 use std::fs;
 
 const FOLDER: &str = concat!(env!("CARGO_MANIFEST_DIR"), "/../../crates/replay/data/");
@@ -28,10 +28,29 @@ fn another_seed_makes_others() {
 
 #[test]
 fn the_driver_answers_them_alike() {
-    for name in ["degree_02", "degree_04", "degree_08", "degree_16", "degree_32", "degree_64"] {
-        let mut driven = Vec::new();
-        drive::drive(stored(name).as_bytes(), &mut driven).unwrap();
-        assert!(driven == stored(name).as_bytes(), "{name}");
+    for degree in DEGREES {
+        for name in [format!("degree_{degree:02}"), format!("grows_{degree:02}")] {
+            let mut driven = Vec::new();
+            drive::drive(stored(&name).as_bytes(), &mut driven).unwrap();
+            assert!(driven == stored(&name).as_bytes(), "{name}");
+        }
+    }
+}
+
+/// Whether a file has a line that begins and ends like this.
+fn has(name: &str, begin: &str, end: &str) -> bool {
+    stored(name).lines().any(|line| line.starts_with(begin) && line.ends_with(end))
+}
+
+#[test]
+fn the_growing_ones_only_make_editions_and_have_every_refusal() {
+    for degree in DEGREES {
+        let name = format!("grows_{degree:02}");
+        assert!(!has(&name, "r ", "") && !has(&name, "d ", ""), "{name}");
+        for number in 5..=9 {
+            assert!(has(&name, "i ", &format!("= {number:x} 0 0 0")) == (number != 6), "{name}: insert, {number}");
+            assert!(has(&name, "c ", &format!("= {number:x} 0 0 0")), "{name}: change, {number}");
+        }
     }
 }
 

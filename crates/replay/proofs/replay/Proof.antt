@@ -1,5 +1,5 @@
--- `replay::replay` is safe and ends: each line begins behind the one before it, and none behind the text. The words stay as
--- many as they were.
+-- `replay::replay` is safe and ends: each line begins behind the one before it, and none behind the text. The words and
+-- the output stay as many as they were.
 -- Assumes nothing.
 use mathlib.Core.Path.{_≡_}
 use Prim.Native.Nat.{_-_, _≤_}
@@ -9,10 +9,10 @@ use Rattle.replay.proofs.replay.Statement.{statement}
 use Rattle.replay.proofs.replay.Tie as tie
 
 abbrev Inv-loop : tie.InvT-loop
-Inv-loop text words₀ file₀ score₀ at₀ words file score at = (at ≤ length text) × (length words ≡ length words₀)
+Inv-loop text words₀ out₀ file₀ score₀ at₀ words out file score at = (at ≤ length text) × (length words ≡ length words₀) × (length out ≡ length out₀)
 
 abbrev μ-loop : tie.MeasureT-loop
-μ-loop text words₀ file₀ score₀ at₀ words file score at = length text - at
+μ-loop text words₀ out₀ file₀ score₀ at₀ words out file score at = length text - at
 
 new-requires : tie.Need-new-requires Inv-loop μ-loop
 new-requires c κs = search needs
@@ -44,6 +44,9 @@ show-requires c κs = search needs
 same-length : tie.Need-same-length Inv-loop μ-loop
 same-length c = search needs
 
+same-length-2 : tie.Need-same-length-2 Inv-loop μ-loop
+same-length-2 c = search needs
+
 returns : tie.Need-returns Inv-loop μ-loop
 returns c = search needs
 
@@ -63,4 +66,5 @@ replay-spec =
     loop-again
     show-requires
     same-length
+    same-length-2
     returns)

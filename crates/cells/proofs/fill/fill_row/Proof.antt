@@ -5,13 +5,13 @@ use mathlib.Core.Path.{_≡_, refl, sym}
 use native.Mathlib.Omega.{arith}
 use Rattle.layout.proofs.ColumnLaws.{has-branch}
 use lib.ListN.{length}
-use Rattle.cells.specs.Mirrors.{rowWords}
+use Rattle.cells.specs.Mirrors.{listed, rowWords}
 use borrow.Author.Needs.{needs}
 use Rattle.cells.proofs.fill.fill_row.Statement.{statement}
 use Rattle.cells.proofs.fill.fill_row.Tie as tie
 
 abbrev Inv-loop : tie.InvT-loop
-Inv-loop a₀ z r row k₀ a k = (a ≡ rowWords z r row k a₀) × (length a ≡ length a₀) × (k ≤ z .degree)
+Inv-loop a₀ z r row k₀ a k = (a ≡ rowWords z r (listed row) k a₀) × (length a ≡ length a₀) × (k ≤ z .degree)
 
 abbrev μ-loop : tie.MeasureT-loop
 μ-loop a₀ z r row k₀ a k = z .degree - k

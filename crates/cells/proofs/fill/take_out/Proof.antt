@@ -7,24 +7,24 @@ use borrow.Author.Needs.{needs}
 use Rattle.cells.proofs.fill.take_out.Statement.{statement}
 use Rattle.cells.proofs.fill.take_out.Tie as tie
 
-sub-place : tie.Need-sub-place
-sub-place c = search needs
+sub-word : tie.Need-sub-word
+sub-word c = search needs
 
-add-place : tie.Need-add-place
-add-place c = omega (arith, c .before .pre .1, refs-few _ (c .before .args .r) (c .before .pre .0 .allowed))
+add-word : tie.Need-add-word
+add-word c = omega (arith, c .before .before .pre .1, refs-few _ (c .before .before .args .r) (c .before .before .pre .0 .allowed))
 
 word-requires : tie.Need-word-requires
 word-requires c κs = (search needs, has-kid _ _ _ (c .before .before .pre .1))
 
-set-word-requires : tie.Need-set-word-requires
-set-word-requires c κs = (search needs, has-kid _ _ _ (c .before .before .before .before .pre .1))
+put-in-requires : tie.Need-put-in-requires
+put-in-requires c κs = search needs
 
 same-length : tie.Need-same-length
 same-length c = search needs
 
 returns : tie.Need-returns
-returns c = (c .before .before .before .before .word .ensures ∙ sym (kid-in _ _ _ _ (c .before .before .before .before .before .before .before .pre .1)), c .before .before .set-word .ensures)
+returns c = (c .before .before .before .before .word .ensures ∙ sym (kid-in _ _ _ _ (c .before .before .before .before .before .before .before .pre .1)), c .before .before .put-in .ensures)
 
 pub take-out-spec : {M : Type 1} → statement M
 take-out-spec =
-    tie.close (tie.spec sub-place add-place word-requires set-word-requires same-length returns)
+    tie.close (tie.spec sub-word add-word word-requires put-in-requires same-length returns)

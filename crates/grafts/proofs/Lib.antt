@@ -1,0 +1,9 @@
+pub mod CaseLaws
+pub mod RowLaws
+pub mod BranchLaws
+pub mod PutLaws
+pub mod SeenLaws
+pub mod Meaning
+pub mod ReachLaws
+pub mod KeptLaws
+pub mod StepLaws

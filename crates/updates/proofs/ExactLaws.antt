@@ -1,0 +1,45 @@
+-- Document 01's table for insert and change on a sound arena, with the definition's own counts: 8 and 9 exactly where "more needed
+-- than free", 8 before 9, and 6 exactly where the key is not there. The names that stand in the counts play no part.
+use Prim.Native.Nat.{ℕ}
+use mathlib.Core.Bool.{Bool}
+use mathlib.Core.List.{List}
+use Rattle.segments.specs.Segments.{segment}
+use Rattle.layout.specs.declared.Shape.{Shape}
+use Rattle.layout.specs.Header.{Header}
+use Rattle.trie.specs.Trie.{Map, get}
+use Rattle.trie.specs.Cells.{Taken, insertTakes}
+use Rattle.arena.specs.Sound.{Sound}
+use Rattle.arena.specs.Holds.{Holds}
+use Rattle.cells.proofs.SlotLaws.{free-slot-lowest}
+use Rattle.chains.specs.Chains.{anEntry}
+use Rattle.grafts.proofs.CaseLaws.{isThere}
+use Rattle.replies.proofs.Tables.{Held, HeaderNumbered}
+use Rattle.updates.proofs.CaseLaws.{writeOf}
+use Rattle.updates.proofs.RoomLaws.{plan-branches, plan-entries, plan-replaced, room-exact}
+use Rattle.updates.proofs.TableLaws.{WriteWhen, write-numbered}
+
+-- what an insert of the key into the map takes, and whether the map has it
+abbrev pub needs : Shape → ℕ → ℕ → ℕ → Map ℕ → Taken
+needs z h k v m = insertTakes (segment (z .bits)) (z .depths) (λ t. t) (λ j. j) (anEntry h k v) m
+
+abbrev pub hasKey : Shape → ℕ → ℕ → Map ℕ → Bool
+hasKey z h k m = isThere (get (segment (z .bits)) (z .depths) h k m)
+
+-- m is the map that edition e holds, where it is held
+pub exactly-numbered : (a : List ℕ) → Sound a → (e h k v : ℕ) (change : Bool) (m : Map ℕ)
+    → ((z : Shape) → Header a z → Held z a e → Holds z a e m)
+    → HeaderNumbered a a (λ z. WriteWhen z a e change (hasKey z h k m) (needs z h k v m .branches) (needs z h k v m .entries))
+    (writeOf a e h k v change)
+exactly-numbered a S e h k v change m holds =
+    write-numbered a e h k v change (λ z. hasKey z h k m) (λ z. needs z h k v m .branches) (λ z. needs z h k v m .entries)
+    (λ z head held.
+    let E = holds z head held in
+    record {
+      replaced = plan-replaced a S z head e h k v m E;
+      branches-are = plan-branches a S z head e h k v m E (λ t. t) (λ j. j);
+      entries-are = plan-entries a S z head e h k v m E (λ t. t) (λ j. j);
+      done =
+          λ s q fit-0 fit-1.
+          let low = free-slot-lowest z a s q in
+          room-exact a S z head e h k v m E s (low .slot) (low .not-held) fit-0 fit-1;
+    })
