@@ -1,7 +1,7 @@
 -- What the writers of an update come to, one after the other: a reference in hand, the words before it all still there, and
 -- the first cells of the free chains taken.
 use Prim.Native.Nat.{ℕ, zero, suc, _<_}
-use mathlib.Core.Path.{_≡_, refl, sym, _∙_}
+use mathlib.Core.Path.{_≡_, refl, sym, _∙_, ap₂}
 use mathlib.Core.Bool.{cond}
 use mathlib.Core.List.{[], List, _∷_}
 use mathlib.Core.Logic.{⊎-elim}
@@ -16,7 +16,7 @@ use Rattle.layout.specs.declared.Shape.{Shape}
 use Rattle.layout.specs.Columns.{columns}
 use Rattle.arena.specs.Local.{Local, Grow, SameSlots}
 use Rattle.cells.specs.Frame.{Kept}
-use Rattle.cells.specs.Mirrors.{Wrote, andThen}
+use Rattle.cells.specs.Mirrors.{Wrote, andThen, wrote, taken, takenOf, takeWords}
 use Rattle.cells.proofs.KeptLaws.{kept-trans}
 
 -- what is left of the free chains where the first n p cells of kind p are taken
@@ -48,6 +48,18 @@ pub then-kept : {z : Shape} {a : List ℕ} (s : Wrote) (f : ℕ → List ℕ →
     → ((s .at ≡ 0 → ⊥) → Kept z (s .words) (f (s .at) (s .words) .words)) → Kept z a (andThen s f .words)
 then-kept s f k on =
     ⊎-elim (λ e. rw (then-over s f e) k) (λ ne. rw (then-on s f ne) (kept-trans k (on ne))) (eq? (s .at) 0)
+
+-- a cell that is taken first, and then written
+module _ (z : Shape) (a : List ℕ) (k r : ℕ) (w : List ℕ) (er : r ≡ takenOf z a k) (ew : w ≡ takeWords z a k) where
+  pub taken-over : (f : ℕ → List ℕ → Wrote) → r ≡ 0 → wrote 0 w ≡ andThen (taken z a k) f
+  taken-over f o =
+      ap₂ (λ (x : ℕ) (y : List ℕ). wrote x y) (sym o ∙ er) ew ∙ sym (then-over (taken z a k) f (sym er ∙ o))
+
+  pub taken-on : (g : ℕ → List ℕ → List ℕ) (v : List ℕ) → (r ≡ 0 → ⊥) → v ≡ g r w
+      → wrote r v ≡ andThen (taken z a k) (λ c x. wrote c (g c x))
+  taken-on g v ne ev =
+      ap₂ (λ (x : ℕ) (y : List ℕ). wrote x y) er (ev ∙ ap₂ g er ew)
+      ∙ sym (then-on (taken z a k) (λ c x. wrote c (g c x)) (λ o. ne (er ∙ o)))
 
 -- THE FREE CELLS
 drop-at : (n : ℕ) (xs : List ℕ) → n < length xs → drop n xs ≡ getD xs n 0 ∷ drop (suc n) xs

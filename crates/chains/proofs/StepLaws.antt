@@ -1,6 +1,6 @@
 -- The writers of chains step by step, as their mirrors have it.
 use Prim.Native.Nat.{ℕ, zero, suc, _-_, _<_}
-use mathlib.Core.Path.{_≡_, refl, sym, ap, ap₂, _∙_, subst}
+use mathlib.Core.Path.{_≡_, refl, sym, ap, _∙_, subst}
 use mathlib.Core.Bool.{true, false}
 use mathlib.Core.List.{List}
 use mathlib.Core.Logic.{⊎-elim}
@@ -15,7 +15,7 @@ use Rattle.lookup.proofs.FindLaws.{kind-says, kind-is, entry-word}
 use Rattle.cells.specs.Mirrors.{Wrote, wrote, taken, takenOf, takeWords, shareWords, fillEntryWords, putInWords}
 use Rattle.cells.proofs.TakeLaws.{taken-cell}
 use Rattle.cells.proofs.StepColumns.{lent-refs}
-use Rattle.cells.proofs.Made.{then-on, then-over}
+use Rattle.cells.proofs.Made.{then-on, then-over, taken-over, taken-on}
 use Rattle.chains.specs.Chains.{lengthAt, anEntry, newEntry, copyEntry, copyOn, closed, pushFront}
 
 pub entry-refs : {z : Shape} {a : List ℕ} (r : ℕ) → Lent z a → namesKind z 1 r ≡ true → 0 < refs z r
@@ -38,16 +38,13 @@ same-at e = ap (λ (s : Wrote). s .at) e
 module _ (z : Shape) (a : List ℕ) (l : ℕ) (e : Entry) where
   pub new-over : (r : ℕ) (w : List ℕ) → r ≡ takenOf z a 1 → w ≡ takeWords z a 1 → r ≡ 0 → wrote 0 w ≡ newEntry z a l e
   unfolding newEntry
-  new-over r w er ew o =
-      ap₂ (λ (x : ℕ) (y : List ℕ). wrote x y) (sym o ∙ er) ew ∙ sym (then-over (taken z a 1) _ (sym er ∙ o))
+  new-over r w er ew o = taken-over z a 1 r w er ew _ o
 
   pub new-on : (r : ℕ) (w v : List ℕ) → r ≡ takenOf z a 1 → w ≡ takeWords z a 1 → (r ≡ 0 → ⊥)
       → v ≡ fillEntryWords z w r l 0 (e .hash) (e .key) (e .value) → wrote r v ≡ newEntry z a l e
   unfolding newEntry
   new-on r w v er ew ne ev =
-      ap₂ (λ (x : ℕ) (y : List ℕ). wrote x y) er
-      (ev ∙ ap₂ (λ (x : List ℕ) (y : ℕ). fillEntryWords z x y l 0 (e .hash) (e .key) (e .value)) ew er)
-      ∙ sym (then-on (taken z a 1) _ (λ o. ne (er ∙ o)))
+      taken-on z a 1 r w er ew (λ c x. fillEntryWords z x c l 0 (e .hash) (e .key) (e .value)) v ne ev
 
   -- what is new is an entry
   pub new-names : (c : ℕ) (w : List ℕ) → wrote c w ≡ newEntry z a l e → (c ≡ 0 → ⊥) → namesKind z 1 c ≡ true

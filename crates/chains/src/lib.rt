@@ -59,7 +59,7 @@ fn copy_entry(a: &mut [u64], z: Shape, r: u64) -> u64
     new_entry(a, z, length, hash, key, value)
 }
 
-// Copies of `count` entries from `from` on, one behind the other, behind the new entry `last`. Answers the last of them.
+// Copies of `count` entries from `from` on, one behind the other, behind the new entry `first`. Answers the last of them.
 // Each is whole before it is put behind the one before it, so that the words hang together all the time.
 fn copy_on(a: &mut [u64], z: Shape, count: u64, first: u64, from: u64) -> u64
     requires { ⌜ Lent z (now a) ⌝ }

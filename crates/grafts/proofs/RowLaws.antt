@@ -24,11 +24,11 @@ module _ (f : ℕ → ℕ) (p g x k : ℕ) where
   unfolding rowWith
   with-at e = rw (eq-eqb k p e)
 
-  with-behind : p < k → rowWith f p g x k ≡ f (k - g)
+  pub with-behind : p < k → rowWith f p g x k ≡ f (k - g)
   unfolding rowWith
   with-behind l = rw (ne-eqb k p (λ e. omega arith), lt-ltb p k l)
 
-  with-before : k < p → rowWith f p g x k ≡ f k
+  pub with-before : k < p → rowWith f p g x k ≡ f k
   unfolding rowWith
   with-before l = rw (ne-eqb k p (λ e. omega arith), le-ltb p k (omega arith))
 

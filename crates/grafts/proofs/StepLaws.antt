@@ -1,12 +1,12 @@
 -- The steps of a new path, as the mirrors have them.
 use Prim.Native.Nat.{ℕ, zero, suc, _+_, _-_, _*_, _%_, _^_, _≤_, _<_}
 use mathlib.Core.Path.{_≡_, refl, sym, ap, ap₂, _∙_}
-use mathlib.Core.Bool.{Bool, true, false, cond}
+use mathlib.Core.Bool.{Bool, true, false}
 use mathlib.Core.List.{List}
 use mathlib.Core.Logic.{⊎-elim}
 use native.Mathlib.Omega.{arith}
 use native.Mathlib.Numerals.{add-one}
-use borrow.Author.Tests.{eq-eqb, ne-eqb, lt-ltb, le-ltb}
+use borrow.Author.Tests.{eq-eqb, ne-eqb}
 use lib.Bits.{bitOr}
 use lib.ListN.{length, getD, set}
 use lib.Seq.{getD-set-same, getD-set-other}
@@ -29,13 +29,11 @@ use Rattle.lookup.specs.Lookup.{namesKind}
 use Rattle.lookup.proofs.FindLaws.{kind-says, entry-word}
 use Rattle.lookup.proofs.RowLaws.{added}
 use Rattle.lookup.proofs.Meaning.{segment-low}
-use Rattle.cells.specs.Mirrors.{Wrote, wrote, listed, taken, takenOf, takeWords, shareWords, rowWords, fillBranchWords}
+use Rattle.cells.specs.Mirrors.{Wrote, wrote, listed, taken, takenOf, takeWords, shareWords, fillBranchWords}
 use Rattle.cells.proofs.RowLaws.{row-same}
 use Rattle.cells.proofs.TakeLaws.{taken-cell}
-use Rattle.cells.proofs.Made.{then-on, then-over}
-use Rattle.grafts.specs.declared.Onward.{Onward}
+use Rattle.cells.proofs.Made.{then-on, then-over, taken-over, taken-on}
 use Rattle.grafts.specs.declared.Onward.the-variants.{Child, Missing}
-use Rattle.grafts.specs.declared.Reach.{Reach}
 use Rattle.grafts.specs.Grafts.{kidBits, kidRow, gapAt, childOf, onwardIn, onOnward, stops, reaches, reachFrom, rowWith, rowAt, IsRow, shareRow, newBranch, putIn, putChild, putBelow, graftFrom}
 
 -- the gap that a place tells
@@ -144,35 +142,13 @@ pub reach-start : (z : Shape) (σ : State) (h : ℕ) (rep : Bool) (d r : ℕ)
     → reachFrom z σ h rep d 0 r ≡ reachFrom z σ h rep (d - 0) 0 r
 reach-start z σ h rep d r = let n : d ≡ d - 0 = omega arith in ap (λ (i : ℕ). reachFrom z σ h rep i 0 r) n
 
--- ROWS
-module _ (f : ℕ → ℕ) (p g k : ℕ) where
-  pub word-at : k ≡ p → 0 ≡ rowWith f p g 0 k
-  unfolding rowWith
-  word-at e = rw (eq-eqb k p e)
-
-  pub word-behind : (k ≡ p → ⊥) → p < k → f (k - g) ≡ rowWith f p g 0 k
-  unfolding rowWith
-  word-behind ne l = rw (ne-eqb k p ne, lt-ltb p k l)
-
-  pub word-before : (k ≡ p → ⊥) → k ≤ p → f k ≡ rowWith f p g 0 k
-  unfolding rowWith
-  word-before ne l = rw (ne-eqb k p ne, le-ltb p k l)
-
--- the row with x at its place differs from the one with 0 there alone
-row-put : (f : ℕ → ℕ) (p g x k : ℕ) → upd (rowWith f p g 0) p x k ≡ rowWith f p g x k
+-- ROWS. Two rows with a word put in at one place differ there alone.
+row-put : (f : ℕ → ℕ) (p g y x k : ℕ) → upd (rowWith f p g y) p x k ≡ rowWith f p g x k
 unfolding rowWith
-row-put f p g x k =
+row-put f p g y x k =
     ⊎-elim
-    (λ e. upd-same (rowWith f p g 0) p x k e ∙ rw (eq-eqb k p e))
-    (λ ne. upd-other (rowWith f p g 0) p x k ne ∙ rw (ne-eqb k p ne))
-    (eq? k p)
-
-row-hole : (f : ℕ → ℕ) (p g x k : ℕ) → upd (rowWith f p g x) p 0 k ≡ rowWith f p g 0 k
-unfolding rowWith
-row-hole f p g x k =
-    ⊎-elim
-    (λ e. upd-same (rowWith f p g x) p 0 k e ∙ rw (eq-eqb k p e))
-    (λ ne. upd-other (rowWith f p g x) p 0 k ne ∙ rw (ne-eqb k p ne))
+    (λ e. upd-same (rowWith f p g y) p x k e ∙ rw (eq-eqb k p e))
+    (λ ne. upd-other (rowWith f p g y) p x k ne ∙ rw (ne-eqb k p ne))
     (eq? k p)
 
 pub is-row-next : (f : ℕ → ℕ) (w : List ℕ) (n v : ℕ) → n < length w → v ≡ f n → IsRow n f w → IsRow (n + 1) f (set w n v)
@@ -191,9 +167,9 @@ is-row-put f p g x n w l R k lk =
     ⊎-elim
     (λ q.
     ap (λ (j : ℕ). getD (set w p x) j 0) q ∙ getD-set-same w p x 0 l
-    ∙ sym (upd-same (rowWith f p g 0) p x k q) ∙ row-put f p g x k)
+    ∙ sym (upd-same (rowWith f p g 0) p x k q) ∙ row-put f p g 0 x k)
     (λ ne.
-    getD-set-other w p k x 0 (λ q. ne q) ∙ R k lk ∙ sym (upd-other (rowWith f p g 0) p x k ne) ∙ row-put f p g x k)
+    getD-set-other w p k x 0 (λ q. ne q) ∙ R k lk ∙ sym (upd-other (rowWith f p g 0) p x k ne) ∙ row-put f p g 0 x k)
     (eq? k p)
 
 -- SHARING
@@ -218,16 +194,12 @@ module _ (z : Shape) (a : List ℕ) where
 module _ (z : Shape) (a : List ℕ) (t b : ℕ) (f : ℕ → ℕ) where
   pub branch-over : (r : ℕ) (w : List ℕ) → r ≡ takenOf z a 0 → w ≡ takeWords z a 0 → r ≡ 0 → wrote 0 w ≡ newBranch z a t b f
   unfolding newBranch
-  branch-over r w er ew o =
-      ap₂ (λ (x : ℕ) (y : List ℕ). wrote x y) (sym o ∙ er) ew ∙ sym (then-over (taken z a 0) _ (sym er ∙ o))
+  branch-over r w er ew o = taken-over z a 0 r w er ew _ o
 
   pub branch-on : (r : ℕ) (w v : List ℕ) → r ≡ takenOf z a 0 → w ≡ takeWords z a 0 → (r ≡ 0 → ⊥)
       → v ≡ fillBranchWords z w r t b f → wrote r v ≡ newBranch z a t b f
   unfolding newBranch
-  branch-on r w v er ew ne ev =
-      ap₂ (λ (x : ℕ) (y : List ℕ). wrote x y) er
-      (ev ∙ ap₂ (λ (x : List ℕ) (y : ℕ). fillBranchWords z x y t b f) ew er)
-      ∙ sym (then-on (taken z a 0) _ (λ o. ne (er ∙ o)))
+  branch-on r w v er ew ne ev = taken-on z a 0 r w er ew (λ c x. fillBranchWords z x c t b f) v ne ev
 
 -- there is room for a row in the cell that was taken, and in the row for all words of the cell
 pub named-room : (z : Shape) (a : List ℕ) (r : ℕ) (row : List ℕ) → Lent z a → r ≡ takenOf z a 0 → (r ≡ 0 → ⊥) → length row ≡ 64
@@ -262,7 +234,7 @@ put-in-is z a t b s x c f row w v lp R ew ev =
     let g : ℕ = gapAt b s in
     ev ∙ branch-same z w t (b + g * 2 ^ s) (listed (set row p x)) (rowWith f p g x) (is-row-put f p g x (z .degree) row lp R)
     ∙ ap (λ (y : List ℕ). newBranch z y t (b + g * 2 ^ s) (rowWith f p g x))
-    (ew ∙ share-same z a (listed row) (upd (rowWith f p g x) p 0) (z .degree) (λ k l. R k l ∙ sym (row-hole f p g x k)))
+    (ew ∙ share-same z a (listed row) (upd (rowWith f p g x) p 0) (z .degree) (λ k l. R k l ∙ sym (row-put f p g x 0 k)))
 
 pub put-is : (z : Shape) (a : List ℕ) (h t r x s b g p b' : ℕ) (row : List ℕ) (w v : List ℕ) (c : ℕ)
     → s ≡ segment (z .bits) t h → b ≡ kidBits z (columns z a) t r → g ≡ gapAt b s → p ≡ below b s → b' ≡ b + gapAt b s * 2 ^ s

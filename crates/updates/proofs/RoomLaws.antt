@@ -32,7 +32,7 @@ use Rattle.replies.specs.Answers.{doneTaking}
 use Rattle.replies.specs.Outcomes.{leaves}
 use Rattle.updates.specs.declared.Plan.{Plan}
 use Rattle.updates.specs.Calls.{freeCells, planOf, writeTo}
-use Rattle.updates.specs.Contracts.{PutIn}
+use Rattle.updates.specs.Contracts.{NewEdition}
 use Rattle.updates.proofs.MapLaws.{Good, withEntry}
 use Rattle.updates.proofs.PlanLaws.{Plans, plan-means}
 use Rattle.updates.proofs.WriteLaws.{branchNames, entryNames, slotWrote, Written, write-means}
@@ -117,7 +117,7 @@ module _ (a : List ℕ) (S : Sound a) (z : Shape) (head : Header a z) (e h k v :
         record { before = head; after = kept-header (W .kept) head; away = away; grow = W .grow; others = W .others }
 
     -- the slot holds the map with the entry put in it, of cells that were free
-    pub write-puts : PutIn z a (slotWrote z a h k v (planOf z a e h k) s) (anEntry h k v) m s (planOf z a e h k .branches)
+    pub write-puts : NewEdition z a (slotWrote z a h k v (planOf z a e h k) s) (anEntry h k v) m s (planOf z a e h k .branches)
         (suc (planOf z a e h k .before))
     write-puts =
         let W = both .1 in

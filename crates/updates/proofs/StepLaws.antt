@@ -1,5 +1,5 @@
 -- The steps of insert and change, as the definitions have them.
-use Prim.Native.Nat.{ℕ, suc, _+_, _-_, _^_, _≤_, _<_}
+use Prim.Native.Nat.{ℕ, suc, _+_, _-_, _<_}
 use mathlib.Core.Path.{_≡_, sym, ap, _∙_}
 use mathlib.Core.Bool.{Bool, true, false}
 use mathlib.Core.List.{List}
@@ -9,7 +9,6 @@ use Rattle.layout.specs.declared.Shape.{Shape}
 use Rattle.layout.specs.Layout.{cellsOf, Lent}
 use Rattle.layout.specs.Columns.{State, byKind, slotWord, columns, setSlotWords}
 use Rattle.lookup.specs.declared.Hit.{Hit}
-use Rattle.lookup.specs.declared.Hit.the-variants as H
 use Rattle.lookup.specs.Lookup.{pathEnd, hitFrom, longest}
 use Rattle.cells.specs.declared.Slot.the-variants.{At, NoneFree}
 use Rattle.cells.specs.Mirrors.{Wrote, wrote, oneMore}

@@ -33,7 +33,7 @@ use Rattle.replies.specs.Outcomes.{Outcome, leaves}
 use Rattle.replies.proofs.AnswerLaws.{refused-not-done, slot-at, slot-none}
 use Rattle.updates.specs.declared.Plan.{Plan}
 use Rattle.updates.specs.Calls.{freeCells, planOf, writeTo, enoughTo, roomTo, wanted, writeHeld, writeIn, insertOf, changeOf}
-use Rattle.updates.specs.Contracts.{PutIn, OtherSlots, Writes, Inserts, Changes}
+use Rattle.updates.specs.Contracts.{NewEdition, OtherSlots, Writes, Inserts, Changes}
 use Rattle.updates.proofs.CaseLaws.{writeOf, write-right}
 use Rattle.updates.proofs.InsideLaws.{write-inside}
 use Rattle.updates.proofs.RoomLaws.{write-done, write-beside, write-puts, write-sound}
@@ -43,7 +43,7 @@ record Means (a : List ℕ) (z : Shape) (e : ℕ) (x : Entry) (o : Outcome) : Ty
   pub sound : Sound (o .words)
   pub kept : (i : ℕ) (m : Map ℕ) → Holds z a i m → Holds z (o .words) i m
   pub new : (m : Map ℕ) → Holds z a e m → (s branches entries : ℕ) → o .answer ≡ doneTaking s branches entries
-      → PutIn z a (o .words) x m s branches entries
+      → NewEdition z a (o .words) x m s branches entries
   pub others : (s branches entries : ℕ) → o .answer ≡ doneTaking s branches entries → OtherSlots z a (o .words) s
 
 not-done : (why : Refusal) (s branches entries : ℕ) → refused why ≡ doneTaking s branches entries → ⊥

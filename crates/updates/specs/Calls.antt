@@ -1,13 +1,13 @@
 -- What insert and change answer and every word that they leave, on any words: document 01, "Answer numbers", its tests in its
 -- order, and "What an update takes".
 use Prim.Native.Nat.{ℕ, suc, _-_}
-use mathlib.Core.Bool.{Bool, true, false, cond, not}
+use mathlib.Core.Bool.{Bool, true, false, cond}
 use mathlib.Core.List.{List}
-use lib.Dec.{eqb, ltb, leb}
+use lib.Dec.{eqb, ltb}
 use Rattle.layout.specs.declared.Shape.{Shape}
 use Rattle.layout.specs.Layout.{cellsOf}
 use Rattle.layout.specs.Header.{headerOf}
-use Rattle.layout.specs.Columns.{State, byKind, slotWord, columns, setSlotWords}
+use Rattle.layout.specs.Columns.{State, byKind, columns, setSlotWords}
 use Rattle.lookup.specs.declared.Hit.{Hit}
 use Rattle.lookup.specs.declared.Hit.the-variants as H
 use Rattle.lookup.specs.Lookup.{pathEnd, hitFrom, longest}

@@ -7,7 +7,7 @@ use mathlib.Core.List.{List}
 use Rattle.segments.specs.Segments.{segment}
 use Rattle.trie.specs.Entry.{Entry}
 use Rattle.trie.specs.Trie.{Map, insert}
-use Rattle.trie.specs.Cells.{Taken, insertTakes}
+use Rattle.trie.specs.Cells.{insertTakes}
 use Rattle.layout.specs.declared.Shape.{Shape}
 use Rattle.layout.specs.Layout.{reference, names}
 use Rattle.layout.specs.Header.{Header}
@@ -31,7 +31,7 @@ pub record Fresh (z : Shape) (a : List ℕ) (kind n : ℕ) (g : ℕ → ℕ) : T
 -- Slot s holds the map m with the entry x put in it: "one branch cell for each branch on the new entry's path in the result, one
 -- cell for the entry, and one for each chain entry that stood before a replaced one. Everything else is shared. .. The answer
 -- reports the cells taken of each kind; the arena's in-use counts rise by these."
-pub record PutIn (z : Shape) (a b : List ℕ) (x : Entry) (m : Map ℕ) (s branches entries : ℕ) : Type 0 where
+pub record NewEdition (z : Shape) (a b : List ℕ) (x : Entry) (m : Map ℕ) (s branches entries : ℕ) : Type 0 where
   pub branch-names : ℕ → ℕ
   pub entry-names : ℕ → ℕ
   pub holds : Holds z b s (insert (segment (z .bits)) (z .depths) branch-names entry-names x m)
@@ -53,7 +53,7 @@ pub record Writes (a : List ℕ) (e : ℕ) (x : Entry) (o : Outcome) (r : Update
   pub sound : Sound a → Sound b
   pub kept : Sound a → Keeps a b
   pub new : Sound a → (z : Shape) → Header a z → (m : Map ℕ) → Holds z a e m
-      → (s branches entries : ℕ) → r ≡ W.Edition s branches entries → PutIn z a b x m s branches entries
+      → (s branches entries : ℕ) → r ≡ W.Edition s branches entries → NewEdition z a b x m s branches entries
   pub others : Sound a → (z : Shape) → Header a z
       → (s branches entries : ℕ) → r ≡ W.Edition s branches entries → OtherSlots z a b s
 
