@@ -8,6 +8,7 @@ pub mod PlanLaws
 pub mod WriteLaws
 pub mod FreshLaws
 pub mod RoomLaws
+pub mod SlotLaws
 pub mod UpdateLaws
 pub mod ExactLaws
 pub mod StepLaws

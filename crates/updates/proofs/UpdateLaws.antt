@@ -28,14 +28,15 @@ use Rattle.chains.specs.Chains.{anEntry}
 use Rattle.replies.specs.declared.Refusal.{Refusal}
 use Rattle.replies.specs.declared.Refusal.the-variants as Why
 use Rattle.replies.specs.declared.Updated.{Updated}
-use Rattle.replies.specs.Answers.{Answer, answer, refused, doneTaking, updated}
+use Rattle.replies.specs.Answers.{Answer, refused, doneTaking, updated}
 use Rattle.replies.specs.Outcomes.{Outcome, leaves}
-use Rattle.replies.proofs.AnswerLaws.{refused-not-done, slot-at, slot-none}
+use Rattle.replies.proofs.AnswerLaws.{slot-at, slot-none}
 use Rattle.updates.specs.declared.Plan.{Plan}
 use Rattle.updates.specs.Calls.{freeCells, planOf, writeTo, enoughTo, roomTo, wanted, writeHeld, writeIn, insertOf, changeOf}
 use Rattle.updates.specs.Contracts.{NewEdition, OtherSlots, Writes, Inserts, Changes}
 use Rattle.updates.proofs.CaseLaws.{writeOf, write-right}
 use Rattle.updates.proofs.InsideLaws.{write-inside}
+use Rattle.updates.proofs.SlotLaws.{not-done, new-slot}
 use Rattle.updates.proofs.RoomLaws.{write-done, write-beside, write-puts, write-sound}
 
 -- WHAT A CALL MEANS that was refused, and one that was done
@@ -45,9 +46,6 @@ record Means (a : List ℕ) (z : Shape) (e : ℕ) (x : Entry) (o : Outcome) : Ty
   pub new : (m : Map ℕ) → Holds z a e m → (s branches entries : ℕ) → o .answer ≡ doneTaking s branches entries
       → NewEdition z a (o .words) x m s branches entries
   pub others : (s branches entries : ℕ) → o .answer ≡ doneTaking s branches entries → OtherSlots z a (o .words) s
-
-not-done : (why : Refusal) (s branches entries : ℕ) → refused why ≡ doneTaking s branches entries → ⊥
-not-done why s branches entries q = refused-not-done why 0 0 (ap (λ (w : Answer). answer (w .number) 0 0 0) q)
 
 refusal-means : (a : List ℕ) (z : Shape) (e : ℕ) (x : Entry) → Sound a → (why : Refusal) → Means a z e x (leaves (refused why) a)
 refusal-means a z e x S why =
@@ -137,6 +135,8 @@ module _ (a : List ℕ) (e h k v : ℕ) (change : Bool) (fits : Word64 (anEntry 
       record {
         outcome = q;
         inside = write-inside a e h k v change r b q;
+        lowest =
+            λ z head s nb ne y. new-slot a e h k v change z head s nb ne (ap (λ (o : Outcome). o .answer) (sym q) ∙ ap updated y);
         sound = λ S. meant S (S .shape) (S .header) .sound;
         kept = λ S z head. meant S z head .kept;
         new = λ S z head m E s nb ne y. meant S z head .new m E s nb ne (ap updated y);

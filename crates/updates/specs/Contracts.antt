@@ -14,7 +14,9 @@ use Rattle.layout.specs.Header.{Header}
 use Rattle.layout.specs.Columns.{columns, slotWord}
 use Rattle.arena.specs.Sound.{Sound}
 use Rattle.arena.specs.Holds.{Holds, Keeps}
+use Rattle.cells.specs.declared.Slot.the-variants.{At}
 use Rattle.cells.specs.Frame.{Kept}
+use Rattle.cells.specs.Slots.{freeSlot}
 use Rattle.chains.specs.Chains.{anEntry}
 use Rattle.replies.specs.declared.Updated.{Updated}
 use Rattle.replies.specs.declared.Updated.the-variants as W
@@ -50,6 +52,7 @@ OtherSlots z a b s = (i p : ℕ) → (i ≡ s → ⊥) → p < 3 → slotWord z 
 pub record Writes (a : List ℕ) (e : ℕ) (x : Entry) (o : Outcome) (r : Updated) (b : List ℕ) : Type 0 where
   pub outcome : leaves (updated r) b ≡ o
   pub inside : (z : Shape) → Header a z → Kept z a b
+  pub lowest : (z : Shape) → Header a z → (s branches entries : ℕ) → r ≡ W.Edition s branches entries → freeSlot z a ≡ At s
   pub sound : Sound a → Sound b
   pub kept : Sound a → Keeps a b
   pub new : Sound a → (z : Shape) → Header a z → (m : Map ℕ) → Holds z a e m
