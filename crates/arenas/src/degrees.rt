@@ -1,6 +1,6 @@
 //! Which degrees format accepts. The slice has room for an arena of any degree that is tried but the largest powers, so
 //! that only the degree can be what is wrong.
-use crate::answer;
+use shown::answer;
 
 // Prints a degree that is accepted, and counts one that is refused with 1. Any other answer is printed with its degree.
 fn format(a: &mut [u64], degree: u64, refused: u64) -> u64 {

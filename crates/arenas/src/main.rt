@@ -1,13 +1,9 @@
-//! The first five calls of the shelf at work on small arenas, for a person to read: what format accepts and writes, how
-//! editions take their slots, and what is refused, in which order and with no word changed. It stands on `shelf` and
-//! prints what the calls answer, as document 01's numbers; the file stdout beside it is what it has to print.
-mod answer;
+//! Format at work on small arenas, for a person to read: which degrees and sizes it accepts, which fault it names first, and
+//! what words it writes. It stands on `shelf` and prints what the calls answer, as document 01's numbers; the file stdout
+//! beside it is what it has to print.
 mod chains;
 mod degrees;
-mod editions;
-mod lent;
-mod refusals;
-mod shared;
+mod marked;
 mod sizes;
 mod smallest;
 
@@ -16,6 +12,4 @@ fn main() {
     sizes::show();
     smallest::show();
     chains::show();
-    editions::show();
-    shared::show();
 }

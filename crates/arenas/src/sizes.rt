@@ -1,5 +1,5 @@
 //! The edges of the three sizes, and which of several faults format names.
-use crate::answer;
+use shown::answer;
 
 struct Sizes {
     branches: u64,

@@ -1,6 +1,7 @@
 //! The smallest arena at each degree: one branch cell, one entry cell and one slot.
-use crate::answer;
-use crate::lent;
+use crate::marked;
+use shown::answer;
+use shown::lent;
 ghost use Prim.Native.Nat.{_≤_};
 ghost use lib.ListN.{length};
 
@@ -25,7 +26,7 @@ fn say_kept(a: &[u64], n: usize)
 {
     let rest = &a[n..];
     print::decimal(b" (", rest.len() as u64);
-    if lent::all(rest, MARK) {
+    if marked::all(rest, MARK) {
         print::say(b" still 7)");
     } else {
         print::say(b" NOT ALL STILL 7)");

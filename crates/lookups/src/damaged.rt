@@ -1,5 +1,6 @@
 //! One word of the arena changed: every call ends, with an answer of the table.
 use crate::answer;
+use shown::answer::say_counted;
 
 fn tried(a: &[u64], label: &[u8]) {
     print::say(label);
@@ -7,7 +8,7 @@ fn tried(a: &[u64], label: &[u8]) {
     answer::say_got(shelf::get(a, 0, 0x7000000000000008, 6));
     let mut out = [0u64; 180];
     print::say(b", list");
-    answer::say_counted(shelf::list(a, 0, 0, &mut out));
+    say_counted(shelf::list(a, 0, 0, &mut out));
     print::say(b", equal");
     answer::say_compared(shelf::equal(a, 0, 3));
     print::say(b"\n");

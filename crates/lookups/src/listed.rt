@@ -1,6 +1,7 @@
 //! Each edition listed whole, and K5 from every place with every room.
-use crate::answer;
 use crate::stored;
+use shown::answer;
+use shown::listed;
 ghost use Prim.Native.Nat.{_≤_};
 
 // What stands in the output before a call.
@@ -13,28 +14,10 @@ fn word(words: &[u64], i: usize) -> u64 {
     if i < words.len() { words[i] } else { MARK }
 }
 
-fn say_entries(words: &[u64]) {
-    let mut i = 0;
-    while i + 3 <= words.len() {
-        print::hex(b" (", word(words, i), 1);
-        print::decimal(b", ", word(words, i + 1));
-        print::decimal(b", ", word(words, i + 2));
-        print::say(b")");
-        i += 3;
-    }
-}
-
 fn whole(a: &[u64], edition: u64) {
     print::decimal(b"  edition ", edition);
     print::say(b": answers");
-    let mut out = [MARK; FULL];
-    let answer = shelf::list(a, edition, 0, &mut out);
-    let n = answer::entries(answer);
-    answer::say_counted(answer);
-    if n <= 5 {
-        say_entries(&out[..3 * n as usize]);
-    }
-    print::say(b"\n");
+    listed::whole(a, edition);
 }
 
 // Whether the output holds the words of the listing from a place on, and the mark in all the others.

@@ -1,37 +1,50 @@
 //! Changes in the arena of the table, each on K5, which is edition 5; and entries written again with the values that they
 //! have. Editions 0 to 8 stay as they were.
-use crate::answer;
 use crate::listed;
 use crate::steps;
-use crate::steps::Entry;
+use shelf::Compared;
+use shown::answer;
+use shown::entries;
+use shown::entries::Entry;
 
 fn change(a: &mut [u64], label: &[u8], e: Entry) {
     print::say(label);
     answer::say_updated(shelf::change(a, 5, e.hash, e.key, e.value));
-    answer::say_use(a);
+    answer::say_use(b"; in use", a);
     print::say(b"\n");
 }
 
 fn absent(a: &mut [u64]) {
-    change(a, b"  key 6", steps::an_entry(0x7000000000000008, 6, 60));
-    change(a, b"  D's key under hash 42", steps::an_entry(0x42, 4, 40));
+    change(a, b"  key 6", entries::an_entry(0x7000000000000008, 6, 60));
+    change(
+        a,
+        b"  D's key under hash 42",
+        entries::an_entry(0x42, 4, 40),
+    );
     change(
         a,
         b"  D's hash with A's key",
-        steps::an_entry(0x7000000000000008, 1, 1),
+        entries::an_entry(0x7000000000000008, 1, 1),
     );
 }
 
 fn present(a: &mut [u64]) {
-    change(a, b"  D to 41", steps::of_step(6));
-    change(a, b"  E to 50 again", steps::of_step(5));
-    change(a, b"  C to 33", steps::an_entry(0x42, 3, 33));
-    steps::insert(a, b"  A with 10 again, inserted", 5, steps::of_step(1), 0);
+    change(a, b"  D to 41", entries::of_step(6));
+    change(a, b"  E to 50 again", entries::of_step(5));
+    change(a, b"  C to 33", entries::an_entry(0x42, 3, 33));
+    steps::insert(a, b"  A with 10 again, inserted", 5, entries::of_step(1), 0);
 }
 
 fn compare(a: &[u64], label: &[u8], first: u64, second: u64) {
     print::say(label);
-    answer::say_compared(shelf::equal(a, first, second));
+    match shelf::equal(a, first, second) {
+        Compared::Equal => print::say(b" equal\n"),
+        Compared::Different => print::say(b" different\n"),
+        Compared::Refused(why) => {
+            print::decimal(b" no. ", why.number());
+            print::say(b"\n");
+        }
+    }
 }
 
 fn compare_all(a: &[u64]) {

@@ -1,6 +1,7 @@
 //! Hash 0, then 2^63, at every degree: K11 at degree 64, K12 at degree 8. The two differ in the last segment alone, so the
 //! second insert makes a branch at each depth. The arena has exactly the cells needed.
 use crate::steps;
+use shown::entries;
 
 fn at_degree(degree: u64, branches: u64) {
     print::decimal(b"Hash 0, then 2^63 (degree ", degree);
@@ -8,12 +9,12 @@ fn at_degree(degree: u64, branches: u64) {
     let mut a = [0u64; 837];
     shelf::format(&mut a, degree, branches, 2, 3);
     shelf::new_edition(&mut a);
-    steps::insert(&mut a, b"  hash 0 into 0", 0, steps::an_entry(0, 1, 1), 2);
+    steps::insert(&mut a, b"  hash 0 into 0", 0, entries::an_entry(0, 1, 1), 2);
     steps::insert(
         &mut a,
         b"  hash 2^63 into 1",
         1,
-        steps::an_entry(0x8000000000000000, 1, 2),
+        entries::an_entry(0x8000000000000000, 1, 2),
         3,
     );
 }

@@ -1,15 +1,10 @@
 //! The shelf table of document 01 on real arenas, through the public calls: K1 to K6, K10, K11 and K12 with the cells that
-//! each insert takes, what every edition lists afterwards, what is in use and how often cells are named; then changes, arenas
-//! with exactly the cells needed and one too few, and refusals. It stands on `shelf` and prints what the calls answer; the
-//! file stdout beside it is what it has to print.
-mod answer;
+//! each insert takes, what every edition lists afterwards, what is in use and how often cells are named; and changes. It
+//! stands on `shelf` and prints what the calls answer; the file stdout beside it is what it has to print.
 mod changes;
 mod far;
-mod lent;
 mod listed;
 mod names;
-mod refusals;
-mod room;
 mod root;
 mod steps;
 
@@ -19,6 +14,4 @@ fn main() {
     changes::show(&mut a);
     root::show();
     far::show();
-    room::show();
-    refusals::show();
 }

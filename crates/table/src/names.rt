@@ -1,12 +1,8 @@
 //! How many cells of an arena are named how often. Each cell keeps its count in its first word, and no call shows it yet; so
 //! the words are read here. The arena has degree 16: a branch cell has 19 words, an entry cell 6.
-use crate::lent;
+use shown::answer;
+use shown::lent;
 ghost use Prim.Native.Nat.{_≤_};
-
-// One more, as far as numbers go.
-fn more(n: u64) -> u64 {
-    if n < u64::MAX { n + 1 } else { n }
-}
 
 // How many of the cells from a word on, up to another, are named so often.
 fn named(a: &[u64], from: usize, end: usize, width: usize, times: u64) -> u64
@@ -16,7 +12,7 @@ fn named(a: &[u64], from: usize, end: usize, width: usize, times: u64) -> u64
     let mut at = from;
     while at < end {
         if lent::word(a, at) == times {
-            n = more(n);
+            n = answer::count(n);
         }
         at += width;
     }

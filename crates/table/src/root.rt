@@ -1,10 +1,11 @@
 //! K10: inserts into an edition whose root is an entry. Only a removal makes such an edition, so it is laid out by hand: the
 //! entry B in entry cell 0, held by slot 0.
-use crate::answer;
-use crate::lent;
 use crate::listed;
 use crate::names;
 use crate::steps;
+use shown::answer;
+use shown::entries;
+use shown::lent;
 
 // Slot 0, the next free entry cell, and how many are in use.
 fn lay_slot(a: &mut [u64]) {
@@ -28,22 +29,28 @@ fn lay_entry(a: &mut [u64], at: usize) {
 }
 
 fn inserts(a: &mut [u64]) {
-    steps::insert(a, b"  K10, A into 0", 0, steps::of_step(1), 2);
-    steps::insert(a, b"  B with 21 into 0", 0, steps::an_entry(0x16, 2, 21), 3);
+    steps::insert(a, b"  K10, A into 0", 0, entries::of_step(1), 2);
+    steps::insert(
+        a,
+        b"  B with 21 into 0",
+        0,
+        entries::an_entry(0x16, 2, 21),
+        3,
+    );
     steps::insert(
         a,
         b"  key 3 under B's hash into 0",
         0,
-        steps::an_entry(0x16, 3, 30),
+        entries::an_entry(0x16, 3, 30),
         4,
     );
-    steps::insert(a, b"  C into 0", 0, steps::of_step(3), 5);
+    steps::insert(a, b"  C into 0", 0, entries::of_step(3), 5);
 }
 
 fn change(a: &mut [u64]) {
     print::say(b"  B changed to 22 in 0");
     answer::say_updated(shelf::change(a, 0, 0x16, 2, 22));
-    answer::say_use(a);
+    answer::say_use(b"; in use", a);
     print::say(b"\n");
     listed::first(a, 7);
 }

@@ -15,14 +15,11 @@ abbrev μ-loop : tie.MeasureT-loop
 loop-holds : tie.Need-loop-holds Inv-loop μ-loop
 loop-holds c = search needs
 
-mul-t11 : tie.Need-mul-t11 Inv-loop μ-loop
-mul-t11 c = search needs
+mul-branch : tie.Need-mul-branch Inv-loop μ-loop
+mul-branch c = search needs
 
-add-t12 : tie.Need-add-t12 Inv-loop μ-loop
-add-t12 c = search needs
-
-slice-aggregate-branch : tie.Need-slice-aggregate-branch Inv-loop μ-loop
-slice-aggregate-branch c = search needs
+add-branch : tie.Need-add-branch Inv-loop μ-loop
+add-branch c = search needs
 
 branch-requires : tie.Need-branch-requires Inv-loop μ-loop
 branch-requires c κs = search needs
@@ -35,9 +32,6 @@ loop-less c = search needs
 
 loop-again : tie.Need-loop-again Inv-loop μ-loop
 loop-again c = search needs
-
-slice-aggregate-branch-2 : tie.Need-slice-aggregate-branch-2 Inv-loop μ-loop
-slice-aggregate-branch-2 c = search needs
 
 branch-requires-2 : tie.Need-branch-requires-2 Inv-loop μ-loop
 branch-requires-2 c κs = search needs
@@ -55,14 +49,12 @@ path-spec =
     Inv-loop
     μ-loop
     loop-holds
-    mul-t11
-    add-t12
-    slice-aggregate-branch
+    mul-branch
+    add-branch
     branch-requires
     add-depth
     loop-less
     loop-again
-    slice-aggregate-branch-2
     branch-requires-2
     same-length
     returns)

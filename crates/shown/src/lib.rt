@@ -1,0 +1,6 @@
+//! What the programs that show the shelf have in common: an answer as a number or as text, editions listed, the words of an
+//! arena copied and compared, and the entries of the shelf table. A layer of the programs, on `shelf` and `print`.
+pub mod answer;
+pub mod entries;
+pub mod lent;
+pub mod listed;
