@@ -48,7 +48,9 @@ pub record NewEdition (z : Shape) (a b : List ℕ) (x : Entry) (m : Map ℕ) (s 
 abbrev pub OtherSlots : Shape → List ℕ → List ℕ → ℕ → Type 0
 OtherSlots z a b s = (i p : ℕ) → (i ≡ s → ⊥) → p < 3 → slotWord z b i p ≡ slotWord z a i p
 
--- an update of edition e with the entry x, whose outcome is o
+-- An update of edition e with the entry x, whose outcome is o. On any words: the answer and every word, words 0 to 7 and those
+-- beyond the total as before, and "the result in the lowest free slot". On a sound arena: sound again, every edition that was held
+-- is the same named trie, the new edition, and no other slot written.
 pub record Writes (a : List ℕ) (e : ℕ) (x : Entry) (o : Outcome) (r : Updated) (b : List ℕ) : Type 0 where
   pub outcome : leaves (updated r) b ≡ o
   pub inside : (z : Shape) → Header a z → Kept z a b
