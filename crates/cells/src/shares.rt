@@ -23,6 +23,13 @@ pub fn more(n: u64) -> u64
     if n < MOST { n + 1 } else { n }
 }
 
+// How much more one number is than another; none where it is not.
+pub fn less(n: u64, m: u64) -> u64
+    ensures { λ r. ⌜ r ≡ n - m ⌝ }
+{
+    if m < n { n - m } else { 0 }
+}
+
 // One more word will name the cell. A count that cannot rise stays: no sound arena has one.
 pub fn share(a: &mut [u64], z: Shape, r: u64)
     requires { ⌜ Lent z (now a) ⌝ }

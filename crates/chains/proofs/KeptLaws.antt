@@ -11,17 +11,17 @@ use Rattle.layout.specs.declared.Shape.{Shape}
 use Rattle.layout.specs.Layout.{Lent}
 use Rattle.lookup.specs.Lookup.{namesKind}
 use Rattle.cells.specs.Frame.{Kept}
-use Rattle.cells.specs.Mirrors.{taken, takenOf, shareWords, putInWords}
-use Rattle.cells.proofs.KeptLaws.{kept-refl, kept-trans, kept-lent, share-kept, take-kept, fill-entry-kept, put-in-kept}
+use Rattle.cells.specs.Mirrors.{Wrote, taken, takenOf, shareWords, putInWords}
+use Rattle.cells.proofs.KeptLaws.{kept-refl, kept-trans, kept-lent, share-kept, take-kept as cell-kept, fill-entry-kept, put-in-kept}
 use Rattle.cells.proofs.TakeLaws.{taken-cell}
 use Rattle.cells.proofs.Made.{then-kept}
-use Rattle.chains.specs.Chains.{newEntry, copyEntry, copyOn, closed, pushFront}
-use Rattle.chains.proofs.StepLaws.{entry-refs, new-names, on-names}
+use Rattle.chains.specs.Chains.{newEntry, copyEntry, copyOn, closed, pushFront, takeFrom}
+use Rattle.chains.proofs.StepLaws.{entry-refs, new-names, on-names, standing}
 
 pub new-kept : (z : Shape) (a : List ℕ) (l : ℕ) (e : Entry) → Kept z a (newEntry z a l e .words)
 unfolding newEntry
 new-kept z a l e =
-    then-kept (taken z a 1) _ (take-kept z a 1 (omega arith))
+    then-kept (taken z a 1) _ (cell-kept z a 1 (omega arith))
     (λ ne.
     let t = taken-cell z a 1 (takenOf z a 1) refl ne in
     fill-entry-kept z _ (takenOf z a 1) l 0 (e .hash) (e .key) (e .value) (t .0) (t .1))
@@ -43,19 +43,32 @@ on-kept z (suc n) c r a l e =
     kept-trans put (on-kept z n d _ _ (kept-lent (kept-trans copied put) l) (new-names z a _ _ d w refl ne)))))
     (λ f. rw f (kept-refl z a))
 
+-- a new entry, and what stands behind it
+stand-kept : {z : Shape} {a : List ℕ} (n r q : ℕ) (s : Wrote) → Lent z a → Kept z a (s .words)
+    → ((s .at ≡ 0 → ⊥) → namesKind z 1 (s .at) ≡ true) → Kept z a (standing z n r q s .words)
+unfolding closed
+stand-kept {z} n r q s lent first names =
+    then-kept s _ first
+    (λ new.
+    let c = s .at in
+    let w = s .words in
+    then-kept (copyOn z n c r w) _ (on-kept z n c r w (kept-lent first lent) (names new))
+    (λ some.
+    let d = copyOn z n c r w .at in
+    let v = copyOn z n c r w .words in
+    kept-trans (share-kept z v q)
+    (put-in-kept z (shareWords z v q) d 0 q (entry-refs d lent (on-names z n c r w d v (names new) refl some)))))
+
 -- PUSH
-module _ {z : Shape} {a : List ℕ} (l : ℕ) (e : Entry) (n r q : ℕ) (lent : Lent z a) where
-  pub push-kept : Kept z a (pushFront z a l e n r q .words)
-  unfolding pushFront closed
-  push-kept =
-      then-kept (newEntry z a l e) _ (new-kept z a l e)
-      (λ new.
-      let c = newEntry z a l e .at in
-      let w = newEntry z a l e .words in
-      let en = new-names z a l e c w refl new in
-      then-kept (copyOn z n c r w) _ (on-kept z n c r w (kept-lent (new-kept z a l e) lent) en)
-      (λ some.
-      let d = copyOn z n c r w .at in
-      let v = copyOn z n c r w .words in
-      kept-trans (share-kept z v q)
-      (put-in-kept z (shareWords z v q) d 0 q (entry-refs d lent (on-names z n c r w d v en refl some)))))
+pub push-kept : {z : Shape} {a : List ℕ} (l : ℕ) (e : Entry) (n r q : ℕ) → Lent z a → Kept z a (pushFront z a l e n r q .words)
+unfolding pushFront
+push-kept {z} {a} l e n r q lent = stand-kept n r q (newEntry z a l e) lent (new-kept z a l e) (new-names z a l e _ _ refl)
+
+-- TAKE FROM
+pub take-kept : {z : Shape} {a : List ℕ} (n r q : ℕ) → Lent z a → Kept z a (takeFrom z n r q a .words)
+unfolding takeFrom
+take-kept {z} {a} zero r q lent = share-kept z a q
+take-kept {z} {a} (suc n) r q lent =
+    split (namesKind z 1 r)
+    (λ y. rw y (stand-kept n _ q (copyEntry z a r) lent (new-kept z a _ _) (new-names z a _ _ _ _ refl)))
+    (λ f. rw f (kept-refl z a))

@@ -1,6 +1,7 @@
--- What a push comes to on an arena in the local form: a chain with the new entry in front, then copies of the entries that are
--- to stay, then the chain that is shared. The chain is made from its front: each entry is filled with nothing behind it, and
--- what stands behind it is put in later. So all the time the last new entry lives and holds nothing, and the front is in hand.
+-- What a push and a removal come to on an arena in the local form: a chain with the new entry in front, where there is one, then
+-- copies of the entries that are to stay, then the chain that is shared. The chain is made from its front: each entry is filled
+-- with nothing behind it, and what stands behind it is put in later. So all the time the last new entry lives and holds nothing,
+-- and the front is in hand.
 use Prim.Native.Nat.{ℕ, zero, suc, _+_, _-_, _≤_, _<_}
 use mathlib.Core.Path.{_≡_, refl, sym, ap, _∙_, subst}
 use mathlib.Core.Bool.{true}
@@ -17,6 +18,7 @@ use Rattle.trie.specs.Trie.{Item, item}
 use Rattle.layout.specs.declared.Shape.{Shape}
 use Rattle.layout.specs.Layout.{reference, kindOf, cellOf, Lent}
 use Rattle.layout.specs.Columns.{State, refs, columns, setKid}
+use Rattle.layout.proofs.OffsetLaws.{names-low}
 use Rattle.arena.specs.Shows.{ShowsChain}
 use Rattle.arena.specs.Local.{Local, Grow, SameSlots}
 use Rattle.arena.proofs.RefLaws.{refs-some}
@@ -28,10 +30,12 @@ use Rattle.lookup.proofs.FindLaws.{kind-is}
 use Rattle.cells.specs.Frame.{Kept}
 use Rattle.cells.specs.Mirrors.{Wrote, wrote, shareWords, putInWords}
 use Rattle.cells.proofs.KeptLaws.{kept-trans, kept-lent, share-kept, put-in-kept}
+use Rattle.cells.proofs.StepColumns.{share-none}
 use Rattle.cells.proofs.Meaning.{Grown, PutIn, share-means, put-in-means}
 use Rattle.cells.proofs.Made.{left, taking, Made, then-on, none-taken}
 use Rattle.trie.proofs.CopyLaws.{copies, copies-length}
-use Rattle.chains.specs.Chains.{newEntry, copyEntry, copyOn, closed, pushFront}
+use Rattle.chains.specs.Chains.{newEntry, copyEntry, copyOn, closed, pushFront, takeFrom}
+use Rattle.chains.proofs.StepLaws.{standing, take-is}
 use Rattle.chains.proofs.NewEntry.{Last, Fresh, last-shows, new-entry-means, fresh-ref}
 
 -- CHAINS THAT ARE SHOWN
@@ -50,6 +54,10 @@ module _ (σ : State) where
       → (0 < σ .count r) × (kindOf r ≡ 1) × (σ .mark r ≡ length xs)
   chain-some [] r h nz = absurd (nz (unfold ShowsChain in h))
   chain-some (x ∷ xs) r h nz = let C = chain-first x xs r h in (C .0, C .1, C .2)
+
+  chain-live : (xs : List (Item ℕ)) (r : ℕ) → ShowsChain σ xs r → 0 < length xs → 0 < σ .count r
+  chain-live [] r h some = absurd (omega arith)
+  chain-live (x ∷ xs) r h some = chain-first x xs r h .0
 
 -- WHILE THE CHAIN IS MADE, from what was in ρ: the words w, where j cells are taken, `first` is in hand and c is the last entry
 record Open (z : Shape) (ρ : State) (free : ℕ → List ℕ) (j first l : ℕ) (e : Entry) (c : ℕ) (w : List ℕ) : Type 0 where
@@ -237,14 +245,7 @@ module _ (z : Shape) (ρ : State) (free : ℕ → List ℕ) (f : ℕ → ℕ) (m
       copy-step n j c r w x es more (rw (suc-add n (length ys)) at O) h (omega arith) (rest (omega arith)) (omega arith)
       (λ d p v Q k. copy-on-means n (suc j) d p v es more (x .entry) Q k (omega arith) (λ l. rest (omega arith)) (omega arith))
 
--- PUSH
-push-is : (z : Shape) (a : List ℕ) (l : ℕ) (e : Entry) (n r q : ℕ) → (newEntry z a l e .at ≡ 0 → ⊥)
-    → pushFront z a l e n r q
-    ≡ closed z (newEntry z a l e .at) q (copyOn z n (newEntry z a l e .at) r (newEntry z a l e .words))
-unfolding pushFront
-push-is z a l e n r q nz = then-on (newEntry z a l e) _ nz
-
--- the new entry is the front and the last entry at first
+-- A NEW ENTRY AND WHAT STANDS BEHIND IT: the new entry is the front and the last entry at first
 first-open : {z : Shape} {a : List ℕ} {free : ℕ → List ℕ} {l : ℕ} {e : Entry} {c : ℕ} {s : Wrote}
     → Lent z a → Fresh z a (λ r. 0) (left (taking 1 1) free) l e c s → Open z (columns z a) free 1 (s .at) l e (s .at) (s .words)
 first-open {s = s} lent F =
@@ -272,6 +273,22 @@ closed-made {s = s} i xs F name len C =
       last-shows i (C .next) xs (F .last) (fresh-ref i F name) len (C .grow) (C .shows),
     )
 
+front-means : {z : Shape} {a : List ℕ} {free : ℕ → List ℕ} {e : Entry} (s : Wrote) → Lent z a
+    → (n r q : ℕ) (es more ys : List (Item ℕ)) (f : ℕ → ℕ)
+    → Fresh z a (λ r. 0) (left (taking 1 1) free) (n + length ys) e (getD (free 1) 0 0) s
+    → ShowsChain (columns z a) (es ++ more) r → length es ≡ n → (0 < n → length more ≡ suc (length ys))
+    → ShowsChain (columns z a) ys q → n < length (free 1)
+    → ((u : ℕ) → u ≤ n → f u ≡ cellOf (getD (free 1) u 0))
+    → Made z a free (taking 1 (suc n)) (standing z n r q s)
+    × ShowsChain (columns z (standing z n r q s .words)) (item (f 0) e ∷ (copies f 1 es ++ ys)) (standing z n r q s .at)
+front-means {z} {a} {free} {e} s lent n r q es more ys f F h len rest shown some named =
+    let C = copy-on-means z (columns z a) free f (suc n) (s .at) q ys (omega arith) (λ u lu. named u (omega arith)) shown
+    n 1 (s .at) r (s .words) es more e (first-open lent F) h len rest (omega arith) in
+    rw (then-on s (λ c w. closed z c q (copyOn z n c r w)) (live-some (F .local) (s .at) (F .last .live)))
+    (closed-made (f 0) (copies f 1 es ++ ys) F (named 0 (omega arith))
+    (omega (arith, length-append (copies f 1 es) ys, copies-length f 1 es)) C)
+
+-- PUSH
 pub push-means : {z : Shape} {a : List ℕ} {free : ℕ → List ℕ} → Lent z a → Local z (columns z a) (λ r. 0) free
     → (e : Entry) (l n r q : ℕ) (es more ys : List (Item ℕ)) (f : ℕ → ℕ)
     → ShowsChain (columns z a) (es ++ more) r → length es ≡ n → (0 < n → length more ≡ suc (length ys))
@@ -279,11 +296,52 @@ pub push-means : {z : Shape} {a : List ℕ} {free : ℕ → List ℕ} → Lent z
     → ((u : ℕ) → u ≤ n → f u ≡ cellOf (getD (free 1) u 0))
     → Made z a free (taking 1 (suc n)) (pushFront z a l e n r q)
     × ShowsChain (columns z (pushFront z a l e n r q .words)) (item (f 0) e ∷ (copies f 1 es ++ ys)) (pushFront z a l e n r q .at)
+unfolding pushFront
 push-means {z} {a} {free} lent I e l n r q es more ys f h len rest shown long some named =
-    let s = newEntry z a (suc (n + length ys)) e in
-    let F = new-entry-means free 0 (n + length ys) e lent (omega arith) (refree (none-taken free 1) I) in
-    let C = copy-on-means z (columns z a) free f (suc n) (s .at) q ys (omega arith) (λ u lu. named u (omega arith)) shown
-    n 1 (s .at) r (s .words) es more e (first-open lent F) h len rest (omega arith) in
-    rw (long, push-is z a (suc (n + length ys)) e n r q (live-some (F .local) (s .at) (F .last .live)))
-    (closed-made (f 0) (copies f 1 es ++ ys) F (named 0 (omega arith))
-    (omega (arith, length-append (copies f 1 es) ys, copies-length f 1 es)) C)
+    rw long
+    (front-means (newEntry z a (suc (n + length ys)) e) lent n r q es more ys f
+    (new-entry-means free 0 (n + length ys) e lent (omega arith) (refree (none-taken free 1) I)) h len rest shown some named)
+
+-- TAKE FROM: nothing is left of the chain, and nothing is written
+pub take-none : (z : Shape) (a : List ℕ) (r : ℕ) → takeFrom z 0 r 0 a ≡ wrote 0 a
+unfolding takeFrom
+take-none z a r = rw (share-none z a 0 (names-low z 0 (omega arith)))
+
+-- nothing stood before the removed entry: what stands behind it is the chain
+take-behind : {z : Shape} {a : List ℕ} {free : ℕ → List ℕ} → Lent z a → Local z (columns z a) (λ r. 0) free
+    → (r q : ℕ) (ys : List (Item ℕ)) → ShowsChain (columns z a) ys q → 0 < length ys
+    → Made z a free (taking 1 0) (takeFrom z 0 r q a) × ShowsChain (columns z (takeFrom z 0 r q a .words)) ys (takeFrom z 0 r q a .at)
+unfolding takeFrom
+take-behind {z} {a} {free} lent I r q ys shown some =
+    let live = chain-live (columns z a) ys q shown some in
+    let S = share-means q lent (λ nz. live) (omega arith) I in (
+      record {
+        some = live-some I q live;
+        kept = share-kept z a q;
+        local = refree (none-taken free 1) (rehand (λ x. ind x q) (λ x nz. omega arith) (S .local));
+        grow = S .grow;
+        slots = S .slots;
+      },
+      chain-kept (S .grow) ys q shown,
+    )
+
+-- what is left of a chain of which es stood before the removed entry, and ys behind it: copies of es, and ys
+pub take-means : {z : Shape} {a : List ℕ} {free : ℕ → List ℕ} → Lent z a → Local z (columns z a) (λ r. 0) free
+    → (n r q : ℕ) (es more ys : List (Item ℕ)) (f : ℕ → ℕ)
+    → ShowsChain (columns z a) (es ++ more) r → length es ≡ n → length more ≡ suc (length ys)
+    → ShowsChain (columns z a) ys q → n ≤ length (free 1)
+    → ((u : ℕ) → u < n → f u ≡ cellOf (getD (free 1) u 0))
+    → 0 < length es + length ys
+    → Made z a free (taking 1 n) (takeFrom z n r q a)
+    × ShowsChain (columns z (takeFrom z n r q a .words)) (copies f 0 es ++ ys) (takeFrom z n r q a .at)
+unfolding copies
+take-means lent I zero r q [] more ys f h len rest shown fits named some = take-behind lent I r q ys shown (omega arith)
+take-means lent I zero r q (x ∷ es) more ys f h len rest shown fits named some = absurd (omega arith)
+take-means lent I (suc n) r q [] more ys f h len rest shown fits named some = absurd (omega arith)
+take-means {z} {a} {free} lent I (suc n) r q (x ∷ es) more ys f h len rest shown fits named some =
+    let C = chain-first (columns z a) x (es ++ more) r h in
+    rw (take-is z r q a n (kind-is z 1 r (refs-some z r (live-cell I r (C .0))) (C .1)))
+    (front-means (copyEntry z a r) lent n (columns z a .kid r 0) q es more ys f
+    (copy-fresh free 0 (n + length ys) r x (es ++ more) lent (omega arith) (refree (none-taken free 1) I) h
+    (omega (arith, length-append es more)))
+    (C .3) (omega arith) (λ l. rest) shown (omega arith) (λ u lu. named u (omega arith)))

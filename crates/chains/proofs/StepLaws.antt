@@ -12,11 +12,11 @@ use Rattle.layout.specs.Columns.{word, refs, columns}
 use Rattle.trie.specs.Entry.{Entry}
 use Rattle.lookup.specs.Lookup.{namesKind}
 use Rattle.lookup.proofs.FindLaws.{kind-says, kind-is, entry-word}
-use Rattle.cells.specs.Mirrors.{Wrote, wrote, taken, takenOf, takeWords, shareWords, fillEntryWords, putInWords}
+use Rattle.cells.specs.Mirrors.{Wrote, wrote, andThen, taken, takenOf, takeWords, shareWords, fillEntryWords, putInWords}
 use Rattle.cells.proofs.TakeLaws.{taken-cell}
 use Rattle.cells.proofs.StepColumns.{lent-refs}
 use Rattle.cells.proofs.Made.{then-on, then-over, taken-over, taken-on}
-use Rattle.chains.specs.Chains.{lengthAt, anEntry, newEntry, copyEntry, copyOn, closed, pushFront}
+use Rattle.chains.specs.Chains.{lengthAt, anEntry, newEntry, copyEntry, copyOn, closed, pushFront, takeFrom}
 
 pub entry-refs : {z : Shape} {a : List ℕ} (r : ℕ) → Lent z a → namesKind z 1 r ≡ true → 0 < refs z r
 entry-refs {z} r l e = lent-refs l r (kind-says z 1 r e .0)
@@ -116,29 +116,67 @@ on-names z (suc n) c r a d w e q ne =
     x : Wrote
     x = copyEntry z a r
 
+-- STAND BEHIND: what is made behind a new entry, once it is there
+module _ (z : Shape) (c n r q : ℕ) (w : List ℕ) (d : ℕ) (v : List ℕ) (on : wrote d v ≡ copyOn z n c r w) where
+  pub stand-fails : d ≡ 0 → wrote 0 v ≡ closed z c q (copyOn z n c r w)
+  unfolding closed
+  stand-fails o = ap (λ (x : ℕ). wrote x v) (sym o) ∙ on ∙ sym (then-over (copyOn z n c r w) _ (sym (same-at on) ∙ o))
+
+  pub stand-done : (u b : List ℕ) → (d ≡ 0 → ⊥) → u ≡ shareWords z v q → b ≡ putInWords z u d 0 q
+      → wrote c b ≡ closed z c q (copyOn z n c r w)
+  unfolding closed
+  stand-done u b some eu eb =
+      ap (λ (x : List ℕ). wrote c x) (eb ∙ ap (λ (x : List ℕ). putInWords z x d 0 q) eu)
+      ∙ ap (λ (s : Wrote). wrote c (putInWords z (shareWords z (s .words) q) (s .at) 0 q)) on
+      ∙ sym (then-on (copyOn z n c r w) _ (λ o. some (same-at on ∙ o)))
+
+-- a new entry s, and what is to stand behind it
+abbrev pub standing : Shape → ℕ → ℕ → ℕ → Wrote → Wrote
+standing z n r q s = andThen s (λ c w. closed z c q (copyOn z n c r w))
+
+module _ (z : Shape) (n r q : ℕ) (s : Wrote) (c : ℕ) (w : List ℕ) (new : wrote c w ≡ s) where
+  standing-none : c ≡ 0 → wrote 0 w ≡ standing z n r q s
+  standing-none o = ap (λ (x : ℕ). wrote x w) (sym o) ∙ new ∙ sym (then-over s _ (sym (same-at new) ∙ o))
+
+  standing-done : (c ≡ 0 → ⊥) → closed z c q (copyOn z n c r w) ≡ standing z n r q s
+  standing-done ne =
+      ap (λ (t : Wrote). closed z (t .at) q (copyOn z n (t .at) r (t .words))) new
+      ∙ sym (then-on s _ (λ o. ne (same-at new ∙ o)))
+
 -- PUSH
 module _ (z : Shape) (a : List ℕ) (l : ℕ) (e : Entry) (n r q : ℕ) (c : ℕ) (w : List ℕ) (new : wrote c w ≡ newEntry z a l e) where
   pub push-none : c ≡ 0 → wrote 0 w ≡ pushFront z a l e n r q
   unfolding pushFront
-  push-none o =
-      ap (λ (x : ℕ). wrote x w) (sym o) ∙ new ∙ sym (then-over (newEntry z a l e) _ (sym (same-at new) ∙ o))
+  push-none = standing-none z n r q (newEntry z a l e) c w new
 
-  module _ (ne : c ≡ 0 → ⊥) (d : ℕ) (v : List ℕ) (on : wrote d v ≡ copyOn z n c r w) where
-    pushed : closed z c q (copyOn z n c r w) ≡ pushFront z a l e n r q
-    unfolding pushFront
-    pushed =
-        ap (λ (s : Wrote). closed z (s .at) q (copyOn z n (s .at) r (s .words))) new
-        ∙ sym (then-on (newEntry z a l e) _ (λ o. ne (same-at new ∙ o)))
+  pub push-done : (c ≡ 0 → ⊥) → closed z c q (copyOn z n c r w) ≡ pushFront z a l e n r q
+  unfolding pushFront
+  push-done = standing-done z n r q (newEntry z a l e) c w new
 
-    pub push-fails : d ≡ 0 → wrote 0 v ≡ pushFront z a l e n r q
-    unfolding closed
-    push-fails o =
-        ap (λ (x : ℕ). wrote x v) (sym o) ∙ on ∙ sym (then-over (copyOn z n c r w) _ (sym (same-at on) ∙ o)) ∙ pushed
+-- TAKE FROM
+module _ (z : Shape) (r q : ℕ) (a : List ℕ) where
+  pub take-shares : (n : ℕ) (b : List ℕ) → n ≡ 0 → b ≡ shareWords z a q → wrote q b ≡ takeFrom z n r q a
+  unfolding takeFrom
+  take-shares n b o eb = rw (o, eb)
 
-    pub push-done : (u b : List ℕ) → (d ≡ 0 → ⊥) → u ≡ shareWords z v q → b ≡ putInWords z u d 0 q → wrote c b ≡ pushFront z a l e n r q
-    unfolding closed
-    push-done u b some eu eb =
-        ap (λ (x : List ℕ). wrote c x) (eb ∙ ap (λ (x : List ℕ). putInWords z x d 0 q) eu)
-        ∙ ap (λ (s : Wrote). wrote c (putInWords z (shareWords z (s .words) q) (s .at) 0 q)) on
-        ∙ sym (then-on (copyOn z n c r w) _ (λ o. some (same-at on ∙ o)))
-        ∙ pushed
+  pub take-ends : (n : ℕ) → (n ≡ 0 → ⊥) → namesKind z 1 r ≡ false → wrote 0 a ≡ takeFrom z n r q a
+  unfolding takeFrom
+  take-ends zero nz f = absurd (nz refl)
+  take-ends (suc n) nz f = rw f
+
+  -- the first copy stands where a push has its new entry
+  pub take-is : (n : ℕ) → namesKind z 1 r ≡ true → takeFrom z (suc n) r q a ≡ standing z n (columns z a .kid r 0) q (copyEntry z a r)
+  unfolding takeFrom
+  take-is n y = rw y
+
+  module _ (c : ℕ) (w : List ℕ) (y : namesKind z 1 r ≡ true) (new : wrote c w ≡ copyEntry z a r) where
+    pub take-fails : (n : ℕ) → (n ≡ 0 → ⊥) → c ≡ 0 → wrote 0 w ≡ takeFrom z n r q a
+    take-fails zero nz o = absurd (nz refl)
+    take-fails (suc n) nz o = standing-none z n (columns z a .kid r 0) q (copyEntry z a r) c w new o ∙ sym (take-is n y)
+
+    pub take-done : (n next : ℕ) → (n ≡ 0 → ⊥) → (c ≡ 0 → ⊥) → next ≡ columns z a .kid r 0
+        → closed z c q (copyOn z (n - 1) c next w) ≡ takeFrom z n r q a
+    take-done zero next nz ne en = absurd (nz refl)
+    take-done (suc n) next nz ne en =
+        let m : suc n - 1 ≡ n = omega arith in
+        rw (m, en) (standing-done z n (columns z a .kid r 0) q (copyEntry z a r) c w new ne ∙ sym (take-is n y))

@@ -38,3 +38,11 @@ closed z c q s = andThen s (λ d w. wrote c (putInWords z (shareWords z w q) d 0
 
 unfoldable pub pushFront : Shape → List ℕ → ℕ → Entry → ℕ → ℕ → ℕ → Wrote
 pushFront z a l e n r q = andThen (newEntry z a l e) (λ c w. closed z c q (copyOn z n c r w))
+
+-- TAKE FROM: copies of the n entries from r on, and the chain q behind the entry that is taken out, which is shared
+unfoldable pub takeFrom : Shape → ℕ → ℕ → ℕ → List ℕ → Wrote
+takeFrom z zero r q a = wrote q (shareWords z a q)
+takeFrom z (suc n) r q a =
+    cond (namesKind z 1 r)
+    (andThen (copyEntry z a r) (λ c w. closed z c q (copyOn z n c (columns z a .kid r 0) w)))
+    (wrote 0 a)

@@ -1,5 +1,6 @@
-//! The writers of chains, a layer of the shelf on `cells`: a new entry, and a new entry in front of copies of some entries
-//! and of a chain that is shared. An update makes the leaf that holds its entry with these.
+//! The writers of chains, a layer of the shelf on `cells`: a new entry in front of copies of some entries and of a chain that
+//! is shared, and a chain with an entry taken out, the entries before it copied and those behind it shared. An update makes
+//! the leaf at the end of its path with these.
 //!
 //! A caller may rely on this: on any words each of them writes what its mirror in specs/Chains.antt says and stays inside
 //! the arena, and answers 0 where no cell could be taken; what it means on a sound arena is in proofs/Meaning.antt.
@@ -16,7 +17,7 @@ ghost use Rattle.layout.specs.Layout.{Lent};
 ghost use Rattle.layout.specs.Columns.{columns};
 ghost use Rattle.lookup.specs.Lookup.{namesKind};
 ghost use Rattle.cells.specs.Mirrors.{Wrote, wrote};
-ghost use Rattle.chains.specs.Chains.{lengthAt, anEntry, newEntry, copyEntry, copyOn, pushFront};
+ghost use Rattle.chains.specs.Chains.{lengthAt, anEntry, newEntry, copyEntry, copyOn, closed, pushFront, takeFrom};
 
 // The kind of an entry cell.
 const ENTRY: u64 = 1;
@@ -86,6 +87,22 @@ fn copy_on(a: &mut [u64], z: Shape, count: u64, first: u64, from: u64) -> u64
     last
 }
 
+// Behind the new entry `first`: copies of `count` entries from `from` on, and the chain `rest`, which is shared. Answers
+// `first`, or 0 where no cell could be taken.
+fn stand_behind(a: &mut [u64], z: Shape, first: u64, count: u64, from: u64, rest: u64) -> u64
+    requires { ⌜ Lent z (now a) ⌝ }
+    requires { ⌜ namesKind z 1 first ≡ true ⌝ }
+    ensures { λ r. ⌜ wrote r (now (a .exit)) ≡ closed z first rest (copyOn z count first from (now (a .entry))) ⌝ }
+{
+    let last = copy_on(&mut *a, z, count, first, from);
+    if last == 0 {
+        return 0;
+    }
+    shares::share(&mut *a, z, rest);
+    fill::put_in(&mut *a, z, last, 0, rest);
+    first
+}
+
 // A new entry in front of copies of `count` entries from `from` on, and of the chain `rest`, which is shared.
 pub fn push_front(
     a: &mut [u64],
@@ -105,11 +122,26 @@ pub fn push_front(
     if first == 0 {
         return 0;
     }
-    let last = copy_on(&mut *a, z, count, first, from);
-    if last == 0 {
+    stand_behind(a, z, first, count, from, rest)
+}
+
+// A chain with an entry taken out: copies of the `count` entries before it, from `from` on, and the chain `rest` behind it,
+// which is shared. Answers its front: `rest` itself, and so maybe 0, where nothing is copied.
+pub fn take_from(a: &mut [u64], z: Shape, count: u64, from: u64, rest: u64) -> u64
+    requires { ⌜ Lent z (now a) ⌝ }
+    ensures { λ r. ⌜ wrote r (now (a .exit)) ≡ takeFrom z count from rest (now (a .entry)) ⌝ }
+{
+    if count == 0 {
+        shares::share(&mut *a, z, rest);
+        return rest;
+    }
+    if !links::is_entry(z, from) {
         return 0;
     }
-    shares::share(&mut *a, z, rest);
-    fill::put_in(&mut *a, z, last, 0, rest);
-    first
+    let next = links::kid(&*a, z, from, 0);
+    let first = copy_entry(&mut *a, z, from);
+    if first == 0 {
+        return 0;
+    }
+    stand_behind(a, z, first, count - 1, next, rest)
 }

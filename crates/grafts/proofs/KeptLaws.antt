@@ -18,7 +18,7 @@ use Rattle.grafts.specs.declared.Onward.the-variants.{Child, Missing}
 use Rattle.grafts.specs.Grafts.{onwardIn, onOnward, stops, newBranch, putIn, putChild, graftFrom}
 use Rattle.grafts.proofs.BranchLaws.{share-row-kept}
 
-branch-kept : (z : Shape) (a : List ℕ) (t b : ℕ) (f : ℕ → ℕ) → Kept z a (newBranch z a t b f .words)
+pub branch-kept : (z : Shape) (a : List ℕ) (t b : ℕ) (f : ℕ → ℕ) → Kept z a (newBranch z a t b f .words)
 unfolding newBranch
 branch-kept z a t b f =
     then-kept (taken z a 0) _ (take-kept z a 0 (omega arith))
@@ -26,11 +26,11 @@ branch-kept z a t b f =
     let c = taken-cell z a 0 (takenOf z a 0) refl ne in
     fill-branch-kept z (takeWords z a 0) (takenOf z a 0) t b f (c .0) (c .1))
 
-put-kept : (z : Shape) (h t r x : ℕ) (a : List ℕ) → Kept z a (putChild z h t r x a .words)
+pub put-kept : (z : Shape) (h t r x : ℕ) (a : List ℕ) → Kept z a (putChild z h t r x a .words)
 unfolding putChild putIn
 put-kept z h t r x a = kept-trans (share-row-kept z _ (z .degree) a) (branch-kept z _ t _ _)
 
-below-kept : {z : Shape} {a : List ℕ} (y : Onward) (leaf : ℕ) (f : ℕ → Wrote) → ((c : ℕ) → Kept z a (f c .words))
+pub below-kept : {z : Shape} {a : List ℕ} (y : Onward) (leaf : ℕ) (f : ℕ → Wrote) → ((c : ℕ) → Kept z a (f c .words))
     → Kept z a (onOnward y (wrote leaf a) f .words)
 unfolding onOnward
 below-kept {z} {a} Missing leaf f k = kept-refl z a

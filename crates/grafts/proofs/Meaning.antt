@@ -38,11 +38,11 @@ use Rattle.grafts.proofs.SeenLaws.{segment-in, Seen, words-celled, bran
 abbrev pub Names : (ℕ → ℕ) → ℕ → (ℕ → List ℕ) → ℕ → Type 0
 Names b t free c = (u : ℕ) → u < c → b (t + u) ≡ cellOf (getD (free 0) (c - suc u) 0)
 
-names-down : (b : ℕ → ℕ) (t : ℕ) (free : ℕ → List ℕ) (c : ℕ) → Names b t free (suc c) → Names b (suc t) free c
+pub names-down : (b : ℕ → ℕ) (t : ℕ) (free : ℕ → List ℕ) (c : ℕ) → Names b t free (suc c) → Names b (suc t) free c
 names-down b t free c N u l =
     ap b (omega arith) ∙ N (suc u) (omega arith) ∙ ap (λ (i : ℕ). cellOf (getD (free 0) i 0)) (omega arith)
 
-names-here : (b : ℕ → ℕ) (t : ℕ) (free : ℕ → List ℕ) (c : ℕ) → Names b t free (suc c) → b t ≡ cellOf (getD (free 0) c 0)
+pub names-here : (b : ℕ → ℕ) (t : ℕ) (free : ℕ → List ℕ) (c : ℕ) → Names b t free (suc c) → b t ≡ cellOf (getD (free 0) c 0)
 names-here b t free c N = ap b (omega arith) ∙ N 0 (omega arith) ∙ ap (λ (i : ℕ). cellOf (getD (free 0) i 0)) (omega arith)
 
 -- what the new path from depth t on comes to: c branches taken, and the node m in hand
@@ -50,7 +50,7 @@ abbrev pub Grafted : Shape → List ℕ → (ℕ → List ℕ) → ℕ → Node 
 Grafted z a free c m t s = Made z a free (taking 0 c) s × Shows (columns z (s .words)) m t (s .at)
 
 -- the leaf at its end takes nothing
-leaf-grafted : {z : Shape} {a : List ℕ} {free : ℕ → List ℕ} (m : Node ℕ) (t x : ℕ) → Local z (columns z a) (λ r. ind r x) free
+pub leaf-grafted : {z : Shape} {a : List ℕ} {free : ℕ → List ℕ} (m : Node ℕ) (t x : ℕ) → Local z (columns z a) (λ r. ind r x) free
     → Shows (columns z a) m t x → Grafted z a free 0 m t (wrote x a)
 leaf-grafted {z} {a} {free} m t x I h = (
   record {
@@ -87,7 +87,7 @@ made-next {free = free} c s u M N =
     }
 
 -- ONE STEP UP: a branch with what was made below in place of a child, or beside the children
-put-grafted : {z : Shape} {a : List ℕ} {free : ℕ → List ℕ} {ks : Kids ℕ} (m : Node ℕ) (h t r c x : ℕ) (s : Wrote) → Lent z a
+pub put-grafted : {z : Shape} {a : List ℕ} {free : ℕ → List ℕ} {ks : Kids ℕ} (m : Node ℕ) (h t r c x : ℕ) (s : Wrote) → Lent z a
     → Grafted z a free c m (suc t) s → Seen z (columns z (s .words)) t r ks
     → t < z .depths → c < length (free 0) → x ≡ cellOf (getD (free 0) c 0)
     → Grafted z a free (suc c) (branch x (put (segment (z .bits) t h) m ks)) t (putBelow z h t r s)
@@ -135,7 +135,7 @@ module _ {z : Shape} {a : List ℕ} {free : ℕ → List ℕ} (l : Lent z a) (h 
       (put-grafted m' h t r c y _ l G (seen-kept (G .0 .grow) live S) deep room name)
 
 -- a chain that is not empty is a leaf at any depth
-leaf-shown : (σ : State) (x : Item ℕ) (xs : List (Item ℕ)) (t r : ℕ) → ShowsChain σ (x ∷ xs) r → Shows σ (leaf (x ∷ xs)) t r
+pub leaf-shown : (σ : State) (x : Item ℕ) (xs : List (Item ℕ)) (t r : ℕ) → ShowsChain σ (x ∷ xs) r → Shows σ (leaf (x ∷ xs)) t r
 unfolding Shows
 leaf-shown σ x xs t r h = h
 

@@ -47,7 +47,7 @@ behind-with f p g x l = fun-ext (λ j. by j (tri j p))
         with-behind f (suc p) g x (suc j) (omega arith) ∙ ap f q ∙ sym (with-behind (behind f) p g x j h)
 
 -- THE PLACE AND THE GAP OF A SEGMENT, by the children
-unfoldable before : {X : Type 0} → ℕ → Kids X → ℕ
+unfoldable pub before : {X : Type 0} → ℕ → Kids X → ℕ
 before s none = 0
 before s (kid i n ks) = cond (ltb i s) (suc (before s ks)) 0
 
@@ -78,11 +78,11 @@ module _ {X : Type 0} where
   before-low lo s none a l = refl
   before-low lo s (kid i n ks) a l = rw (le-ltb i s (omega (arith, a .0)))
 
-  before-here : (s i : ℕ) (n : Node X) (ks : Kids X) → s ≤ i → before s (kid i n ks) ≡ 0
+  pub before-here : (s i : ℕ) (n : Node X) (ks : Kids X) → s ≤ i → before s (kid i n ks) ≡ 0
   unfolding before
   before-here s i n ks l = rw (le-ltb i s l)
 
-  before-more : (s i : ℕ) (n : Node X) (ks : Kids X) → i < s → before s (kid i n ks) ≡ suc (before s ks)
+  pub before-more : (s i : ℕ) (n : Node X) (ks : Kids X) → i < s → before s (kid i n ks) ≡ suc (before s ks)
   unfolding before
   before-more s i n ks l = rw (lt-ltb i s l)
 
@@ -114,7 +114,7 @@ module _ {X : Type 0} where
       (λ l. below-only-upto i _ _ only s l ∙ ih ∙ before-low i s ks a l ∙ sym (before-here s i n ks l))
       (lt? i s)
 
-  before-is : (s : ℕ) (ks : Kids X) → Asc ks → below (bitmap ks) s ≡ before s ks
+  pub before-is : (s : ℕ) (ks : Kids X) → Asc ks → below (bitmap ks) s ≡ before s ks
   unfolding Asc
   before-is s none a = unfold bitmap before in (below-out 0 0 s (omega arith) (omega arith) ∙ rank-first 0)
   before-is s (kid i n ks) a = before-step s i n ks a (before-is s ks (above-asc i ks a))

@@ -29,7 +29,7 @@ use Rattle.lookup.specs.Lookup.{namesKind}
 use Rattle.lookup.proofs.FindLaws.{kind-says, entry-word}
 use Rattle.lookup.proofs.RowLaws.{added}
 use Rattle.lookup.proofs.Meaning.{segment-low}
-use Rattle.cells.specs.Mirrors.{Wrote, wrote, listed, taken, takenOf, takeWords, shareWords, fillBranchWords}
+use Rattle.cells.specs.Mirrors.{Wrote, wrote, andThen, listed, taken, takenOf, takeWords, shareWords, fillBranchWords}
 use Rattle.cells.proofs.RowLaws.{row-same}
 use Rattle.cells.proofs.TakeLaws.{taken-cell}
 use Rattle.cells.proofs.Made.{then-on, then-over, taken-over, taken-on}
@@ -185,7 +185,7 @@ module _ (z : Shape) (a : List ℕ) where
   pub share-all : (f : ℕ → ℕ) (n d : ℕ) (b : List ℕ) → n ≤ d → d ≤ n → b ≡ shareRow z f n a → b ≡ shareRow z f d a
   share-all f n d b l m e = let q : n ≡ d = omega arith in rw (sym q) e
 
-  share-same : (f g : ℕ → ℕ) (n : ℕ) → ((k : ℕ) → k < n → f k ≡ g k) → shareRow z f n a ≡ shareRow z g n a
+  pub share-same : (f g : ℕ → ℕ) (n : ℕ) → ((k : ℕ) → k < n → f k ≡ g k) → shareRow z f n a ≡ shareRow z g n a
   unfolding shareRow
   share-same f g zero e = refl
   share-same f g (suc n) e = rw (share-same f g n (λ k l. e k (omega arith)), e n (omega arith))
@@ -207,7 +207,7 @@ pub named-room : (z : Shape) (a : List ℕ) (r : ℕ) (row : List ℕ) → Lent 
 named-room z a r row l e ne len =
     let t = taken-cell z a 0 r e ne in (t .0, t .1, omega (arith, small z (l .allowed) .degree-high))
 
-branch-same : (z : Shape) (a : List ℕ) (t b : ℕ) (f g : ℕ → ℕ) → ((k : ℕ) → k < z .degree → f k ≡ g k)
+pub branch-same : (z : Shape) (a : List ℕ) (t b : ℕ) (f g : ℕ → ℕ) → ((k : ℕ) → k < z .degree → f k ≡ g k)
     → newBranch z a t b f ≡ newBranch z a t b g
 unfolding newBranch fillBranchWords
 branch-same z a t b f g e =
@@ -247,12 +247,13 @@ put-is z a h t r x s b g p b' row w v c es eb eg ep eb' lp R ew ev =
     put-in-is z a t b s x c (kidRow z (columns z a) r) row w v (rw ep at lp) (rw (ep, eg) at R) ew (rw (ep, eb') at ev)
     ∙ ap₂ (λ (i j : ℕ). putIn z t i (kidRow z (columns z a) r) j x a) eb es
 
-pub below-none : (z : Shape) (h t r x : ℕ) (a : List ℕ) → x ≡ 0 → wrote 0 a ≡ putBelow z h t r (wrote x a)
-below-none z h t r x a o = ap (λ (i : ℕ). wrote i a) (sym o) ∙ sym (then-over (wrote x a) (putChild z h t r) o)
+-- what comes next, where something was made, and where not
+module _ (f : ℕ → List ℕ → Wrote) (x : ℕ) (a : List ℕ) where
+  pub below-none : x ≡ 0 → wrote 0 a ≡ andThen (wrote x a) f
+  below-none e = ap (λ (y : ℕ). wrote y a) (sym e) ∙ sym (then-over (wrote x a) f e)
 
-pub below-some : (z : Shape) (h t r x : ℕ) (a : List ℕ) (s : Wrote) → (x ≡ 0 → ⊥) → s ≡ putChild z h t r x a
-    → s ≡ putBelow z h t r (wrote x a)
-below-some z h t r x a s ne e = e ∙ sym (then-on (wrote x a) (putChild z h t r) ne)
+  pub below-some : (s : Wrote) → (x ≡ 0 → ⊥) → s ≡ f x a → s ≡ andThen (wrote x a) f
+  below-some s ne q = q ∙ sym (then-on (wrote x a) f ne)
 
 -- GRAFT, with d depths in all and n left
 module _ (z : Shape) (h leaf : ℕ) (rep : Bool) (r : ℕ) (a : List ℕ) where

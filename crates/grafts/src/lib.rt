@@ -46,7 +46,7 @@ fn is_end(z: Shape, replaced: bool, r: u64) -> bool
     replaced && links::is_entry(z, r)
 }
 
-fn follow(a: &[u64], z: Shape, hash: u64, depth: u64, r: u64) -> Onward
+pub fn follow(a: &[u64], z: Shape, hash: u64, depth: u64, r: u64) -> Onward
     requires { ⌜ Lent z (now a) ⌝ }
     requires { ⌜ depth < z .depths ⌝ }
     ensures { λ v. ⌜ v ≡ onwardIn z (columns z (now (a .entry))) hash depth r ⌝ }
@@ -120,7 +120,7 @@ fn load(a: &[u64], z: Shape, r: u64, at: u64, gap: u64, row: &mut [u64])
 }
 
 // Every reference of a row is named once more.
-fn share_row(a: &mut [u64], z: Shape, row: &[u64])
+pub fn share_row(a: &mut [u64], z: Shape, row: &[u64])
     requires { ⌜ Lent z (now a) ⌝ }
     requires { ⌜ length (now row) ≡ 64 ⌝ }
     ensures { λ _. ⌜ now (a .exit) ≡ shareRow z (listed (now (row .entry))) (z .degree) (now (a .entry)) ⌝ }
@@ -132,7 +132,7 @@ fn share_row(a: &mut [u64], z: Shape, row: &[u64])
     }
 }
 
-fn new_branch(a: &mut [u64], z: Shape, depth: u64, bitmap: u64, row: &[u64]) -> u64
+pub fn new_branch(a: &mut [u64], z: Shape, depth: u64, bitmap: u64, row: &[u64]) -> u64
     requires { ⌜ Lent z (now a) ⌝ }
     requires { ⌜ length (now row) ≡ 64 ⌝ }
     ensures { λ r. ⌜ wrote r (now (a .exit)) ≡ newBranch z (now (a .entry)) depth bitmap (listed (now (row .entry))) ⌝ }
@@ -147,7 +147,7 @@ fn new_branch(a: &mut [u64], z: Shape, depth: u64, bitmap: u64, row: &[u64]) -> 
 
 // A new branch with the children of a node, all of them shared, but for the one at the hash's segment: that is the one
 // given, whether or not another stood there.
-fn put_child(a: &mut [u64], z: Shape, hash: u64, depth: u64, r: u64, child: u64) -> u64
+pub fn put_child(a: &mut [u64], z: Shape, hash: u64, depth: u64, r: u64, child: u64) -> u64
     requires { ⌜ Lent z (now a) ⌝ }
     requires { ⌜ depth < z .depths ⌝ }
     ensures { λ v. ⌜ wrote v (now (a .exit)) ≡ putChild z hash depth r child (now (a .entry)) ⌝ }

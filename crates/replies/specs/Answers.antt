@@ -16,6 +16,8 @@ use Rattle.replies.specs.declared.Compared.{Compared}
 use Rattle.replies.specs.declared.Compared.the-variants as E
 use Rattle.replies.specs.declared.InUse.{InUse}
 use Rattle.replies.specs.declared.InUse.the-variants as U
+use Rattle.replies.specs.declared.Dropped.{Dropped}
+use Rattle.replies.specs.declared.Dropped.the-variants as G
 
 pub record Answer : Type 0 where
   pub number : ℕ
@@ -70,6 +72,10 @@ counted (C.Refused r) = refused r
 abbrev pub inUse : InUse → Answer
 inUse (U.Cells b n) = done b n
 inUse (U.Refused r) = refused r
+
+abbrev pub dropped : Dropped → Answer
+dropped (G.Freed b n) = done b n
+dropped (G.Refused r) = refused r
 
 abbrev pub found : Found → Answer
 found (D.Value v) = done v 0

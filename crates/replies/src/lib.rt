@@ -84,3 +84,9 @@ pub enum InUse {
     Cells { branches: u64, entries: u64 },
     Refused(Refusal),
 }
+
+// A drop answers how many cells of each kind it freed.
+pub enum Dropped {
+    Freed { branches: u64, entries: u64 },
+    Refused(Refusal),
+}

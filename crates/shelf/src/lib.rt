@@ -3,13 +3,14 @@
 //!
 //! A call takes the arena as a slice and has no precondition: on any words and numbers it ends, stays inside the slice,
 //! and refuses wrong input with document 01's number for it, with nothing written. What each call answers, and every
-//! word that it leaves, is one definition per call in specs/Calls.antt of the crates `makes` and `looks`; what that means
-//! on a sound arena is in its contract (specs/Contracts.antt there). The answers are those of the crate `replies`.
+//! word that it leaves, is one definition per call in specs/Calls.antt of the crates `makes`, `updates`, `removes`,
+//! `drops` and `looks`; what that means on a sound arena is in its contract (specs/Contracts.antt there). The answers are those of the crate `replies`.
 
 use layout::Heading;
 use layout::header;
 pub use replies::Compared;
 pub use replies::Counted;
+pub use replies::Dropped;
 pub use replies::Formatted;
 pub use replies::Found;
 pub use replies::InUse;
@@ -18,6 +19,8 @@ pub use replies::Refusal;
 pub use replies::Updated;
 ghost use Rattle.makes.specs.Contracts.{Formats, MakesNew, Shares};
 ghost use Rattle.updates.specs.Contracts.{Inserts, Changes};
+ghost use Rattle.removes.specs.Contracts.{Removes};
+ghost use Rattle.drops.specs.Contracts.{Drops};
 ghost use Rattle.looks.specs.Contracts.{Sizes, Uses, Gets, Lists, Compares};
 
 // Makes an arena of the words: all cells free, no edition held. Words beyond the total stay as they are.
@@ -65,6 +68,28 @@ pub fn change(a: &mut [u64], edition: u64, hash: u64, key: u64, value: u64) -> U
     match header::read(&*a) {
         Heading::Right(z) => updates::change(a, z, edition, hash, key, value),
         Heading::Wrong => Updated::Refused(Refusal::Damaged),
+    }
+}
+
+// An edition with an entry taken out, in the lowest free slot; the old edition stays as it is. Answers the new edition, and how
+// many branch cells and entry cells it took: the rest is shared.
+pub fn remove(a: &mut [u64], edition: u64, hash: u64, key: u64) -> Updated
+    ensures { λ r. ⌜ Removes (now (a .entry)) edition hash key r (now (a .exit)) ⌝ }
+{
+    match header::read(&*a) {
+        Heading::Right(z) => removes::remove(a, z, edition, hash, key),
+        Heading::Wrong => Updated::Refused(Refusal::Damaged),
+    }
+}
+
+// Lets an edition go: its slot is free, and every cell that no other edition reaches. Answers how many branch cells and entry
+// cells were freed.
+pub fn drop(a: &mut [u64], edition: u64) -> Dropped
+    ensures { λ r. ⌜ Drops (now (a .entry)) edition r (now (a .exit)) ⌝ }
+{
+    match header::read(&*a) {
+        Heading::Right(z) => drops::drop(a, z, edition),
+        Heading::Wrong => Dropped::Refused(Refusal::Damaged),
     }
 }
 

@@ -10,13 +10,14 @@ use Rattle.trie.specs.Trie.{Map, get}
 use Rattle.trie.specs.Cells.{Taken, insertTakes}
 use Rattle.arena.specs.Sound.{Sound}
 use Rattle.arena.specs.Holds.{Holds}
-use Rattle.cells.proofs.SlotLaws.{free-slot-lowest}
 use Rattle.chains.specs.Chains.{anEntry}
 use Rattle.grafts.proofs.CaseLaws.{isThere}
 use Rattle.replies.proofs.Tables.{Held, HeaderNumbered}
-use Rattle.updates.proofs.CaseLaws.{writeOf}
-use Rattle.updates.proofs.RoomLaws.{plan-branches, plan-entries, plan-replaced, room-exact}
-use Rattle.updates.proofs.TableLaws.{WriteWhen, write-numbered}
+use Rattle.grants.proofs.MeansLaws as grants
+use Rattle.updates.proofs.TestLaws.{NotThere, writeOf}
+use Rattle.updates.proofs.RoomLaws.{plan-branches, plan-entries, plan-replaced}
+use Rattle.updates.proofs.TableLaws.{WriteWhen, planned-lacks}
+use Rattle.updates.proofs.UpdateLaws.{writer}
 
 -- what an insert of the key into the map takes, and whether the map has it
 abbrev pub needs : Shape → ℕ → ℕ → ℕ → Map ℕ → Taken
@@ -31,15 +32,8 @@ pub exactly-numbered : (a : List ℕ) → Sound a → (e h k v : ℕ) (change : 
     → HeaderNumbered a a (λ z. WriteWhen z a e change (hasKey z h k m) (needs z h k v m .branches) (needs z h k v m .entries))
     (writeOf a e h k v change)
 exactly-numbered a S e h k v change m holds =
-    write-numbered a e h k v change (λ z. hasKey z h k m) (λ z. needs z h k v m .branches) (λ z. needs z h k v m .entries)
-    (λ z head held.
-    let E = holds z head held in
-    record {
-      replaced = plan-replaced a S z head e h k v m E;
-      branches-are = plan-branches a S z head e h k v m E (λ t. t) (λ j. j);
-      entries-are = plan-entries a S z head e h k v m E (λ t. t) (λ j. j);
-      done =
-          λ s q fit-0 fit-1.
-          let low = free-slot-lowest z a s q in
-          room-exact a S z head e h k v m E s (low .slot) (low .not-held) fit-0 fit-1;
-    })
+    grants.exactly-numbered (writer a e h k v change) S m holds (λ z. NotThere change (hasKey z h k m)) (λ z. needs z h k v m .branches)
+    (λ z. needs z h k v m .entries)
+    (λ z head E. planned-lacks z a e h k change (hasKey z h k m) (plan-replaced a S z head e h k v m E))
+    (λ z head E w.
+    (plan-branches a S z head e h k v m E (λ t. t) (λ j. j), plan-entries a S z head e h k v m E (λ t. t) (λ j. j)))

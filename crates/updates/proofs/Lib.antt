@@ -1,14 +1,12 @@
-pub mod CaseLaws
-pub mod InsideLaws
 pub mod TestLaws
+pub mod InsideLaws
+pub mod SlotLaws
 pub mod NumberLaws
 pub mod TableLaws
 pub mod MapLaws
 pub mod PlanLaws
 pub mod WriteLaws
-pub mod FreshLaws
 pub mod RoomLaws
-pub mod SlotLaws
 pub mod UpdateLaws
 pub mod ExactLaws
 pub mod StepLaws

@@ -41,6 +41,7 @@ use Rattle.updates.proofs.MapLaws.{Good, withEntry, newBranches, root-c
 pub record Plans (z : Shape) (a : List ℕ) (b f : ℕ → ℕ) (x : Entry) (m : Map ℕ) (good : Good z m) (r : ℕ) (p : Plan)
     : Type 0 where
   pub branches-is : p .branches ≡ newBranches z b f x m
+  pub more-is : oneMore (p .before) ≡ suc (p .before)
   pub entries-is : suc (p .before) ≡ insertTakes (segment (z .bits)) (z .depths) b f x m .entries
   pub replaced-is : p .replaced ≡ isThere (get (segment (z .bits)) (z .depths) (x .hash) (x .key) m)
   pub size-is : p .size ≡ size (withEntry z b f x m)
@@ -171,6 +172,8 @@ module _ {z : Shape} {a : List ℕ} (l : Lent z a) (b f : ℕ → ℕ) (e h k v 
       rw (plan-there z a e h k q y)
       (record {
         branches-is = there-branches n good w shown g;
+        more-is =
+            one-more _ (omega (arith, ahead, parts-length h k _ p, chain-small _ _ (s .all-shown)));
         entries-is = omega (arith, ahead, entries-there (segment (z .bits)) b f x (root n) (z .depths) w g p);
         replaced-is = sym (is-there w refl g);
         size-is = sized ∙ sym (size-there (segment (z .bits)) b f x (root n) (z .depths) w some-depths good g);
@@ -198,6 +201,7 @@ module _ {z : Shape} {a : List ℕ} (l : Lent z a) (b f : ℕ → ℕ) (e h k v 
       rw (plan-new z a e h k (map-hit-none z a (l .allowed) Word64 h k m r good shown g))
       (record {
         branches-is = branches;
+        more-is = one-more 0 (omega arith);
         entries-is = sym (entries-new (segment (z .bits)) b f x m (z .depths) g);
         replaced-is = sym (is-absent refl g);
         size-is =

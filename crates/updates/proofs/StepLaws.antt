@@ -1,37 +1,28 @@
 -- The steps of insert and change, as the definitions have them.
-use Prim.Native.Nat.{ℕ, suc, _+_, _-_, _<_}
+use Prim.Native.Nat.{ℕ, _-_}
 use mathlib.Core.Path.{_≡_, sym, ap, _∙_}
 use mathlib.Core.Bool.{Bool, true, false}
 use mathlib.Core.List.{List}
 use native.Mathlib.Omega.{arith}
-use native.Mathlib.Numerals.{add-one}
 use Rattle.layout.specs.declared.Shape.{Shape}
-use Rattle.layout.specs.Layout.{cellsOf, Lent}
-use Rattle.layout.specs.Columns.{State, byKind, slotWord, columns, setSlotWords}
+use Rattle.layout.specs.Columns.{State, slotWord, columns, setSlotWords}
 use Rattle.lookup.specs.declared.Hit.{Hit}
 use Rattle.lookup.specs.Lookup.{pathEnd, hitFrom, longest}
-use Rattle.cells.specs.declared.Slot.the-variants.{At, NoneFree}
 use Rattle.cells.specs.Mirrors.{Wrote, wrote, oneMore}
-use Rattle.cells.specs.Slots.{heldSlot, freeSlot}
+use Rattle.cells.specs.Slots.{heldSlot}
 use Rattle.chains.specs.Chains.{lengthAt, anEntry, pushFront}
 use Rattle.grafts.specs.declared.Reach.{Reach}
 use Rattle.grafts.specs.Grafts.{reachFrom, graftFrom}
+use Rattle.replies.specs.declared.Refusal.{Refusal}
 use Rattle.replies.specs.declared.Refusal.the-variants as Why
 use Rattle.replies.specs.Answers.{refused, doneTaking}
-use Rattle.replies.specs.Outcomes.{Outcome, leaves}
-use Rattle.replies.proofs.AnswerLaws.{slot-at, slot-none}
+use Rattle.replies.specs.Outcomes.{Outcome, leaves, onWrote}
+use Rattle.replies.proofs.AnswerLaws.{wrote-none, wrote-some}
+use Rattle.grants.specs.declared.Room.the-variants.{At, Refused}
+use Rattle.grants.specs.Rooms.{roomOf}
+use Rattle.grants.proofs.CaseLaws.{on-at, on-refused, update-absent, update-goes}
 use Rattle.updates.specs.declared.Plan.{Plan}
-use Rattle.updates.specs.Calls.{freeCells, replacing, adding, planBy, planAt, planOf, onWrote, rootTo, writeTo, enoughTo, roomTo, wanted, writeHeld, writeIn}
-use Rattle.updates.proofs.CaseLaws.{wrote-none, wrote-some}
-
--- FREE CELLS
-pub free-is : (z : Shape) (a : List ℕ) (k n m : ℕ) → n ≡ cellsOf z k → m ≡ byKind a 10 k → n - m ≡ freeCells z a k
-unfolding freeCells
-free-is z a k n m en em = rw (en, em)
-
-pub free-few : {z : Shape} {a : List ℕ} (n : ℕ) → Lent z a → n < freeCells z a 1 → n < 4194304
-unfolding freeCells cellsOf
-free-few n l lt = omega (arith, l .allowed .few-entries)
+use Rattle.updates.specs.Calls.{replacing, adding, planBy, planAt, planOf, rootTo, writeTo, plannedTo, wanted, writeBy, writeIn}
 
 -- PLANS
 module _ (z : Shape) (σ : State) (root size h : ℕ) (reach : Reach) where
@@ -82,32 +73,30 @@ module _ (z : Shape) (a : List ℕ) (h k v : ℕ) (p : Plan) (s x : ℕ) (w : Li
     at-root = let q : z .depths - z .depths ≡ 0 = omega arith in rw q at er
 
     abbrev done : ℕ → List ℕ → Outcome
-    done y c = leaves (doneTaking s (p .branches) (suc (p .before))) (setSlotWords z c s 1 y (p .size))
+    done y c = leaves (doneTaking s (p .branches) (oneMore (p .before))) (setSlotWords z c s 1 y (p .size))
 
     pub root-none : r ≡ 0 → leaves (refused Why.NoBranchCells) u ≡ writeTo z a h k v p s
     unfolding rootTo
     root-none o =
         sym (wrote-none (wrote r u) Why.NoBranchCells done o) ∙ ap (λ (y : Wrote). onWrote y Why.NoBranchCells done) at-root ∙ goes
 
-    pub root-done : (b : List ℕ) → (r ≡ 0 → ⊥) → b ≡ setSlotWords z u s 1 r (p .size)
-        → leaves (doneTaking s (p .branches) (p .before + 1)) b ≡ writeTo z a h k v p s
+    pub root-done : (n : ℕ) (b : List ℕ) → n ≡ oneMore (p .before) → (r ≡ 0 → ⊥) → b ≡ setSlotWords z u s 1 r (p .size)
+        → leaves (doneTaking s (p .branches) n) b ≡ writeTo z a h k v p s
     unfolding rootTo
-    root-done b ne eb =
-        rw (eb, add-one)
+    root-done n b en ne eb =
+        rw (en, eb)
         (sym (wrote-some (wrote r u) Why.NoBranchCells done ne)
         ∙ ap (λ (y : Wrote). onWrote y Why.NoBranchCells done) at-root ∙ goes)
 
 -- ROOM
-module _ (z : Shape) (a : List ℕ) (h k v : ℕ) (p : Plan) where
-  pub room-none : freeSlot z a ≡ NoneFree → leaves (refused Why.NoSlot) a ≡ roomTo z a h k v p
-  unfolding roomTo
-  room-none e = sym (slot-none (freeSlot z a) (leaves (refused Why.NoSlot) a) (enoughTo z a h k v p) e)
+module _ (z : Shape) (a : List ℕ) (h k v : ℕ) (p : Plan) (n : ℕ) (en : n ≡ oneMore (p .before)) where
+  pub room-goes : (s : ℕ) (o : Outcome) → roomOf z a (p .branches) n ≡ At s → o ≡ writeTo z a h k v p s → o ≡ plannedTo z a h k v p
+  room-goes s o q w = w ∙ sym (on-at a _ (writeTo z a h k v p) s (rw en at q))
 
-  pub room-at : (s : ℕ) (o : Outcome) → freeSlot z a ≡ At s → o ≡ enoughTo z a h k v p s → o ≡ roomTo z a h k v p
-  unfolding roomTo
-  room-at s o e q = q ∙ sym (slot-at (freeSlot z a) (leaves (refused Why.NoSlot) a) (enoughTo z a h k v p) s e)
+  pub room-refuses : (why : Refusal) → roomOf z a (p .branches) n ≡ Refused why → leaves (refused why) a ≡ plannedTo z a h k v p
+  room-refuses why q = sym (on-refused a _ (writeTo z a h k v p) why (rw en at q))
 
--- WANTED AND HELD
+-- WANTED
 pub wanted-change : (c : Bool) (p : Plan) → c ≡ true → p .replaced ≡ wanted c p
 unfolding wanted
 wanted-change c p e = rw e
@@ -116,21 +105,14 @@ pub wanted-insert : (c : Bool) (p : Plan) → c ≡ false → true ≡ wanted c 
 unfolding wanted
 wanted-insert c p e = rw e
 
-module _ (z : Shape) (a : List ℕ) (e h k v : ℕ) (c : Bool) (o : Outcome) where
-  pub held-wanted : (p : Plan) → p ≡ planOf z a e h k → wanted c p ≡ true → o ≡ roomTo z a h k v p → o ≡ writeHeld z a e h k v c
-  unfolding writeHeld
-  held-wanted p ep w q =
-      let t : wanted c (planOf z a e h k) ≡ true = rw ep at w in rw t (q ∙ ap (roomTo z a h k v) ep)
+-- the call, by the plan that was found
+module _ (z : Shape) (a : List ℕ) (e h k v : ℕ) (c : Bool) (o : Outcome) (p : Plan) (ep : p ≡ planOf z a e h k)
+    (held : heldSlot z a e ≡ true) where
+  by-plan : o ≡ writeBy z a e h k v c p → o ≡ writeIn z a e h k v c
+  by-plan q = q ∙ ap (writeBy z a e h k v c) ep
 
-  pub held-absent : (p : Plan) → p ≡ planOf z a e h k → wanted c p ≡ false → o ≡ leaves (refused Why.Absent) a
-      → o ≡ writeHeld z a e h k v c
-  unfolding writeHeld
-  held-absent p ep w q = let t : wanted c (planOf z a e h k) ≡ false = rw ep at w in rw t q
+  pub held-wanted : wanted c p ≡ true → o ≡ plannedTo z a h k v p → o ≡ writeIn z a e h k v c
+  held-wanted w q = by-plan (q ∙ sym (update-goes z a e _ held w))
 
-  pub in-held : heldSlot z a e ≡ true → o ≡ writeHeld z a e h k v c → o ≡ writeIn z a e h k v c
-  unfolding writeIn
-  in-held t q = rw t q
-
-  pub in-not : heldSlot z a e ≡ false → o ≡ leaves (refused Why.NoSuchEdition) a → o ≡ writeIn z a e h k v c
-  unfolding writeIn
-  in-not t q = rw t q
+  pub held-absent : wanted c p ≡ false → o ≡ leaves (refused Why.Absent) a → o ≡ writeIn z a e h k v c
+  held-absent w q = by-plan (q ∙ sym (update-absent z a e _ held w))

@@ -1,45 +1,34 @@
 -- What the writing of an update comes to on an arena in the local form, where its plan says what the trie's insert takes and
 -- makes and as many cells are free: the new map in the free slot, what lived still there, and no other slot written.
-use Prim.Native.Nat.{ℕ, suc, _-_, _≤_, _<_}
+use Prim.Native.Nat.{ℕ, suc, _≤_, _<_}
 use mathlib.Core.Path.{_≡_, refl, sym, ap, _∙_, subst}
 use mathlib.Core.List.{List}
 use native.Mathlib.Omega.{arith}
-use lib.ListN.{length, getD}
-use borrow.Author.Tests.{ne-eqb}
+use lib.ListN.{length}
 use Rattle.layout.specs.declared.Shape.{Shape}
-use Rattle.layout.specs.Layout.{cellOf, Lent}
+use Rattle.layout.specs.Layout.{Lent}
 use Rattle.layout.specs.Columns.{columns, setSlotWords}
 use Rattle.trie.specs.Trie.{Map}
-use Rattle.arena.specs.Shows.{ShowsChain, ShowsMap, Edition}
-use Rattle.arena.specs.Local.{Local, Grow, SameSlots}
+use Rattle.arena.specs.Shows.{ShowsChain, ShowsMap}
+use Rattle.arena.specs.Local.{Local, SameSlots}
 use Rattle.arena.proofs.LocalLaws.{rehand}
-use Rattle.arena.proofs.Frames.{grow-trans, slots-trans, map-kept, SameSlot, slots-at, slot-trans}
+use Rattle.arena.proofs.Frames.{grow-trans, slots-trans, map-kept, slots-at, slot-trans}
 use Rattle.cells.specs.Frame.{Kept}
-use Rattle.cells.specs.Mirrors.{Wrote}
+use Rattle.cells.specs.Mirrors.{Wrote, oneMore}
 use Rattle.cells.proofs.KeptLaws.{kept-trans, kept-lent, slots-kept}
 use Rattle.cells.proofs.Made.{left, taking, Made}
 use Rattle.cells.proofs.Meaning.{hold-means}
 use Rattle.chains.specs.Chains.{anEntry, pushFront}
 use Rattle.chains.proofs.Meaning.{push-means}
 use Rattle.grafts.specs.Grafts.{graftFrom}
-use Rattle.replies.specs.declared.Refusal.{Refusal}
 use Rattle.replies.specs.Answers.{doneTaking}
-use Rattle.replies.specs.Outcomes.{Outcome, leaves}
+use Rattle.replies.specs.Outcomes.{leaves}
+use Rattle.replies.proofs.AnswerLaws.{wrote-some}
 use Rattle.updates.specs.declared.Plan.{Plan}
-use Rattle.updates.specs.Calls.{onWrote, rootTo, writeTo}
+use Rattle.grants.proofs.FreshLaws.{branchNames, entryNames, Written}
+use Rattle.updates.specs.Calls.{rootTo, writeTo}
 use Rattle.updates.proofs.MapLaws.{Good, withEntry, newLeaf, map-graft-means}
 use Rattle.updates.proofs.PlanLaws.{Plans}
-
--- THE NEW CELLS, from the fronts of the free chains: the entries in their order, of n branches the deepest first
-abbrev pub branchNames : (ℕ → List ℕ) → ℕ → ℕ → ℕ
-branchNames free n t = cellOf (getD (free 0) (n - suc t) 0)
-
-abbrev pub entryNames : (ℕ → List ℕ) → ℕ → ℕ
-entryNames free u = cellOf (getD (free 1) u 0)
-
--- what is left of the free chains
-abbrev pub leftBy : Plan → (ℕ → List ℕ) → ℕ → List ℕ
-leftBy p free = left (taking 0 (p .branches)) (left (taking 1 (suc (p .before))) free)
 
 -- THE WORDS: after the leaf, after the path above it, and after the slot
 module _ (z : Shape) (a : List ℕ) (h k v : ℕ) (p : Plan) where
@@ -52,24 +41,13 @@ module _ (z : Shape) (a : List ℕ) (h k v : ℕ) (p : Plan) where
   unfoldable pub slotWrote : ℕ → List ℕ
   slotWrote s = setSlotWords z (rootWrote .words) s 1 (rootWrote .at) (p .size)
 
-wrote-on : (s : Wrote) (why : Refusal) (f : ℕ → List ℕ → Outcome) → (s .at ≡ 0 → ⊥) → onWrote s why f ≡ f (s .at) (s .words)
-unfolding onWrote
-wrote-on s why f ne = rw (ne-eqb (s .at) 0 ne)
-
 write-to-is : (z : Shape) (a : List ℕ) (h k v : ℕ) (p : Plan) (s : ℕ) → (leafWrote z a h k v p .at ≡ 0 → ⊥)
     → (rootWrote z a h k v p .at ≡ 0 → ⊥)
-    → writeTo z a h k v p s ≡ leaves (doneTaking s (p .branches) (suc (p .before))) (slotWrote z a h k v p s)
+    → writeTo z a h k v p s ≡ leaves (doneTaking s (p .branches) (oneMore (p .before))) (slotWrote z a h k v p s)
 unfolding writeTo rootTo leafWrote rootWrote slotWrote
-write-to-is z a h k v p s some above = wrote-on _ _ _ some ∙ wrote-on _ _ _ above
+write-to-is z a h k v p s some above = wrote-some _ _ _ some ∙ wrote-some _ _ _ above
 
--- WHAT IT COMES TO, from the words a with these free cells: the map m in slot s
-pub record Written (z : Shape) (a : List ℕ) (free : ℕ → List ℕ) (p : Plan) (s : ℕ) (m : Map ℕ) (b : List ℕ) : Type 0 where
-  pub kept : Kept z a b
-  pub local : Local z (columns z b) (λ r. 0) (leftBy p free)
-  pub grow : Grow (columns z a) (columns z b)
-  pub others : (j : ℕ) → (j ≡ s → ⊥) → SameSlot (columns z a) (columns z b) j
-  pub edition : Edition z (columns z b) s m
-
+-- WHAT IT COMES TO
 module _ {z : Shape} {a : List ℕ} {free : ℕ → List ℕ} (l : Lent z a) (I : Local z (columns z a) (λ r. 0) free) (h k v : ℕ)
     (p : Plan) (m : Map ℕ) (good : Good z m) (r : ℕ) (shown : ShowsMap (columns z a) m r)
     (P : Plans z a (branchNames free (p .branches)) (entryNames free) (anEntry h k v) m good r p)
@@ -102,8 +80,8 @@ module _ {z : Shape} {a : List ℕ} {free : ℕ → List ℕ} (l : Lent z a) (I 
       (λ u lu. ap (branchNames free (p .branches)) (omega arith))
 
   pub write-means : (s : ℕ) → s < z .slots → (columns z a .held s ≡ 1 → ⊥)
-      → (writeTo z a h k v p s ≡ leaves (doneTaking s (p .branches) (suc (p .before))) (slotWrote z a h k v p s))
-      × Written z a free p s (withEntry z (branchNames free (p .branches)) (entryNames free) (anEntry h k v) m)
+      → (writeTo z a h k v p s ≡ leaves (doneTaking s (p .branches) (oneMore (p .before))) (slotWrote z a h k v p s))
+      × Written z a free (p .branches) (suc (p .before)) s (withEntry z (branchNames free (p .branches)) (entryNames free) (anEntry h k v) m)
       (slotWrote z a h k v p s)
   unfolding slotWrote
   write-means s ls away =

@@ -1,29 +1,22 @@
 -- What insert and change answer and every word that they leave, on any words: document 01, "Answer numbers", its tests in its
 -- order, and "What an update takes".
-use Prim.Native.Nat.{ℕ, suc, _-_}
+use Prim.Native.Nat.{ℕ, _-_}
 use mathlib.Core.Bool.{Bool, true, false, cond}
 use mathlib.Core.List.{List}
-use lib.Dec.{eqb, ltb}
 use Rattle.layout.specs.declared.Shape.{Shape}
-use Rattle.layout.specs.Layout.{cellsOf}
 use Rattle.layout.specs.Header.{headerOf}
-use Rattle.layout.specs.Columns.{State, byKind, columns, setSlotWords}
+use Rattle.layout.specs.Columns.{State, columns, setSlotWords}
 use Rattle.lookup.specs.declared.Hit.{Hit}
 use Rattle.lookup.specs.declared.Hit.the-variants as H
 use Rattle.lookup.specs.Lookup.{pathEnd, hitFrom, longest}
-use Rattle.cells.specs.Mirrors.{Wrote, oneMore}
-use Rattle.cells.specs.Slots.{heldSlot, freeSlot}
+use Rattle.cells.specs.Mirrors.{oneMore}
 use Rattle.chains.specs.Chains.{lengthAt, anEntry, pushFront}
 use Rattle.grafts.specs.Grafts.{reachFrom, graftFrom}
-use Rattle.replies.specs.declared.Refusal.{Refusal}
 use Rattle.replies.specs.declared.Refusal.the-variants as Why
 use Rattle.replies.specs.Answers.{refused, doneTaking}
-use Rattle.replies.specs.Outcomes.{Outcome, leaves, onHeader, onSlot}
+use Rattle.replies.specs.Outcomes.{Outcome, leaves, onHeader, onWrote}
+use Rattle.grants.specs.Rooms.{roomOf, onRoom, updateIn}
 use Rattle.updates.specs.declared.Plan.{Plan}
-
--- "Free cells" are those of a kind that are not in use
-unfoldable pub freeCells : Shape → List ℕ → ℕ → ℕ
-freeCells z a k = cellsOf z k - byKind a 10 k
 
 -- THE READING PASS. The key stands at q, in the chain from `front` on: the entries before it are copied, those behind it shared.
 unfoldable pub replacing : Shape → State → ℕ → ℕ → ℕ → ℕ → ℕ → Plan
@@ -66,38 +59,29 @@ planOf z a e h k =
     let σ = columns z a in planAt z σ (σ .root e) (σ .size e) h k (pathEnd z σ h (z .depths) 0 (σ .root e))
 
 -- WRITING. The leaf with the new entry, then the path above it, then the slot.
-unfoldable pub onWrote : Wrote → Refusal → (ℕ → List ℕ → Outcome) → Outcome
-onWrote s why f = cond (eqb (s .at) 0) (leaves (refused why) (s .words)) (f (s .at) (s .words))
-
 unfoldable pub rootTo : Shape → ℕ → Plan → ℕ → ℕ → List ℕ → Outcome
 rootTo z h p s leaf w =
     onWrote (graftFrom z h leaf (p .replaced) (z .depths) 0 (p .root) w) Why.NoBranchCells
-    (λ r v. leaves (doneTaking s (p .branches) (suc (p .before))) (setSlotWords z v s 1 r (p .size)))
+    (λ r v. leaves (doneTaking s (p .branches) (oneMore (p .before))) (setSlotWords z v s 1 r (p .size)))
 
 unfoldable pub writeTo : Shape → List ℕ → ℕ → ℕ → ℕ → Plan → ℕ → Outcome
 writeTo z a h k v p s =
     onWrote (pushFront z a (p .length) (anEntry h k v) (p .before) (p .front) (p .rest)) Why.NoEntryCells (rootTo z h p s)
 
--- 8 and 9: "more needed than free"
-unfoldable pub enoughTo : Shape → List ℕ → ℕ → ℕ → ℕ → Plan → ℕ → Outcome
-enoughTo z a h k v p s =
-    cond (ltb (freeCells z a 0) (p .branches)) (leaves (refused Why.NoBranchCells) a)
-    (cond (ltb (freeCells z a 1) (suc (p .before))) (leaves (refused Why.NoEntryCells) a) (writeTo z a h k v p s))
-
-unfoldable pub roomTo : Shape → List ℕ → ℕ → ℕ → ℕ → Plan → Outcome
-roomTo z a h k v p = onSlot (freeSlot z a) (leaves (refused Why.NoSlot) a) (enoughTo z a h k v p)
+-- where there is room: the new entry takes a cell, and each entry before a replaced one
+abbrev pub plannedTo : Shape → List ℕ → ℕ → ℕ → ℕ → Plan → Outcome
+plannedTo z a h k v p = onRoom a (roomOf z a (p .branches) (oneMore (p .before))) (writeTo z a h k v p)
 
 -- 6: "change: key not there"
 unfoldable pub wanted : Bool → Plan → Bool
 wanted change p = cond change (p .replaced) true
 
-unfoldable pub writeHeld : Shape → List ℕ → ℕ → ℕ → ℕ → ℕ → Bool → Outcome
-writeHeld z a e h k v change =
-    cond (wanted change (planOf z a e h k)) (roomTo z a h k v (planOf z a e h k)) (leaves (refused Why.Absent) a)
+-- the call, by its plan
+abbrev pub writeBy : Shape → List ℕ → ℕ → ℕ → ℕ → ℕ → Bool → Plan → Outcome
+writeBy z a e h k v change p = updateIn z a e (wanted change p) (p .branches) (oneMore (p .before)) (writeTo z a h k v p)
 
--- 5: "number not below S, or not held"
-unfoldable pub writeIn : Shape → List ℕ → ℕ → ℕ → ℕ → ℕ → Bool → Outcome
-writeIn z a e h k v change = cond (heldSlot z a e) (writeHeld z a e h k v change) (leaves (refused Why.NoSuchEdition) a)
+abbrev pub writeIn : Shape → List ℕ → ℕ → ℕ → ℕ → ℕ → Bool → Outcome
+writeIn z a e h k v change = writeBy z a e h k v change (planOf z a e h k)
 
 abbrev pub insertIn : Shape → List ℕ → ℕ → ℕ → ℕ → ℕ → Outcome
 insertIn z a e h k v = writeIn z a e h k v false

@@ -1,69 +1,28 @@
--- What insert and change promise: the answer and every word that they leave, as specs/Calls.antt says, and what that means on a
--- sound arena. What stands in quotes is document 01's.
-use Prim.Native.Nat.{ℕ, _+_, _≤_, _<_}
-use mathlib.Core.Path.{_≡_}
-use mathlib.Core.Bool.{true}
+-- What insert and change promise: an update (grants/Contracts) whose answer and words are those of specs/Calls.antt and whose step is
+-- the trie's insert. What stands in quotes is document 01's.
+use Prim.Native.Nat.{ℕ}
 use mathlib.Core.List.{List}
 use Rattle.segments.specs.Segments.{segment}
 use Rattle.trie.specs.Entry.{Entry}
-use Rattle.trie.specs.Trie.{Map, insert}
+use Rattle.trie.specs.Trie.{insert, updated}
 use Rattle.trie.specs.Cells.{insertTakes}
 use Rattle.layout.specs.declared.Shape.{Shape}
-use Rattle.layout.specs.Layout.{reference, names}
-use Rattle.layout.specs.Header.{Header}
-use Rattle.layout.specs.Columns.{columns, slotWord}
-use Rattle.arena.specs.Sound.{Sound}
-use Rattle.arena.specs.Holds.{Holds, Keeps}
-use Rattle.cells.specs.declared.Slot.the-variants.{At}
-use Rattle.cells.specs.Frame.{Kept}
-use Rattle.cells.specs.Slots.{freeSlot}
 use Rattle.chains.specs.Chains.{anEntry}
 use Rattle.replies.specs.declared.Updated.{Updated}
-use Rattle.replies.specs.declared.Updated.the-variants as W
-use Rattle.replies.specs.Answers.{updated}
-use Rattle.replies.specs.Outcomes.{Outcome, leaves}
+use Rattle.grants.specs.Contracts.{Step, Updates}
 use Rattle.updates.specs.Calls.{insertOf, changeOf}
 
--- n new names g 0, g 1, .. for cells of a kind: cells that were free, no two of them the same
-pub record Fresh (z : Shape) (a : List ℕ) (kind n : ℕ) (g : ℕ → ℕ) : Type 0 where
-  pub are-cells : (i : ℕ) → i < n → names z (reference kind (g i)) ≡ true
-  pub were-free : (i : ℕ) → i < n → columns z a .count (reference kind (g i)) ≡ 0
-  pub distinct : (i j : ℕ) → i < n → j < n → g i ≡ g j → i ≡ j
-
--- Slot s holds the map m with the entry x put in it: "one branch cell for each branch on the new entry's path in the result, one
--- cell for the entry, and one for each chain entry that stood before a replaced one. Everything else is shared. .. The answer
--- reports the cells taken of each kind; the arena's in-use counts rise by these."
-pub record NewEdition (z : Shape) (a b : List ℕ) (x : Entry) (m : Map ℕ) (s branches entries : ℕ) : Type 0 where
-  pub branch-names : ℕ → ℕ
-  pub entry-names : ℕ → ℕ
-  pub holds : Holds z b s (insert (segment (z .bits)) (z .depths) branch-names entry-names x m)
-  pub counts : insertTakes (segment (z .bits)) (z .depths) branch-names entry-names x m ≡ record { branches = branches; entries = entries }
-  pub within-depths : branches ≤ z .depths
-  pub new-branches : Fresh z a 0 branches branch-names
-  pub new-entries : Fresh z a 1 entries entry-names
-  pub branches-rise : columns z b .used 0 ≡ columns z a .used 0 + branches
-  pub entries-rise : columns z b .used 1 ≡ columns z a .used 1 + entries
-
--- no slot but s is written
-abbrev pub OtherSlots : Shape → List ℕ → List ℕ → ℕ → Type 0
-OtherSlots z a b s = (i p : ℕ) → (i ≡ s → ⊥) → p < 3 → slotWord z b i p ≡ slotWord z a i p
-
--- An update of edition e with the entry x, whose outcome is o. On any words: the answer and every word, words 0 to 7 and those
--- beyond the total as before, and "the result in the lowest free slot". On a sound arena: sound again, every edition that was held
--- is the same named trie, the new edition, and no other slot written.
-pub record Writes (a : List ℕ) (e : ℕ) (x : Entry) (o : Outcome) (r : Updated) (b : List ℕ) : Type 0 where
-  pub outcome : leaves (updated r) b ≡ o
-  pub inside : (z : Shape) → Header a z → Kept z a b
-  pub lowest : (z : Shape) → Header a z → (s branches entries : ℕ) → r ≡ W.Edition s branches entries → freeSlot z a ≡ At s
-  pub sound : Sound a → Sound b
-  pub kept : Sound a → Keeps a b
-  pub new : Sound a → (z : Shape) → Header a z → (m : Map ℕ) → Holds z a e m
-      → (s branches entries : ℕ) → r ≡ W.Edition s branches entries → NewEdition z a b x m s branches entries
-  pub others : Sound a → (z : Shape) → Header a z
-      → (s branches entries : ℕ) → r ≡ W.Edition s branches entries → OtherSlots z a b s
+-- the entry x put in: "one branch cell for each branch on the new entry's path in the result, one cell for the entry, and one for
+-- each chain entry that stood before a replaced one"
+abbrev pub insertStep : Entry → Shape → Step
+insertStep x z =
+    record {
+      makes = λ b f m. updated (insert (segment (z .bits)) (z .depths) b f x m);
+      takes = λ b f m. insertTakes (segment (z .bits)) (z .depths) b f x m;
+    }
 
 abbrev pub Inserts : List ℕ → ℕ → ℕ → ℕ → ℕ → Updated → List ℕ → Type 0
-Inserts a e h k v r b = Writes a e (anEntry h k v) (insertOf a e h k v) r b
+Inserts a e h k v r b = Updates a e (insertStep (anEntry h k v)) (insertOf a e h k v) r b
 
 abbrev pub Changes : List ℕ → ℕ → ℕ → ℕ → ℕ → Updated → List ℕ → Type 0
-Changes a e h k v r b = Writes a e (anEntry h k v) (changeOf a e h k v) r b
+Changes a e h k v r b = Updates a e (insertStep (anEntry h k v)) (changeOf a e h k v) r b

@@ -5,9 +5,9 @@
 //! are needed. Then the new entry is made, with copies of the chain entries before the one it takes the place of, and the
 //! path above it; everything else is shared.
 
-use cells::Slot;
 use cells::shares;
 use cells::slots;
+use grants::Room;
 use layout::Shape;
 use layout::words;
 use lookup::Hit;
@@ -15,12 +15,14 @@ use lookup::links;
 use replies::Refusal;
 use replies::Updated;
 ghost use mathlib.Core.Path.{_≡_};
-ghost use Prim.Native.Nat.{_-_, _<_};
+ghost use mathlib.Core.Bool.{true};
+ghost use Prim.Native.Nat.{_<_};
 ghost use Rattle.layout.specs.Layout.{Lent};
 ghost use Rattle.layout.specs.Columns.{columns};
+ghost use Rattle.cells.specs.Slots.{heldSlot};
 ghost use Rattle.replies.specs.Answers.{updated};
 ghost use Rattle.replies.specs.Outcomes.{leaves};
-ghost use Rattle.updates.specs.Calls.{freeCells, replacing, adding, planOf, writeTo, roomTo, wanted, writeHeld, writeIn, insertIn, changeIn};
+ghost use Rattle.updates.specs.Calls.{replacing, adding, planOf, writeTo, plannedTo, wanted, writeIn, insertIn, changeIn};
 
 // What the reading pass finds: the edition's root, the size of the new edition; the chain at the end of the path, how many
 // of its entries stand before the one that is replaced, what will stand behind the new entry and these, and how long the new
@@ -36,25 +38,6 @@ pub struct Plan {
     pub replaced: bool,
 }
 
-// How much more one number is than another; 0 where it is not.
-fn less(n: u64, m: u64) -> u64
-    ensures { λ r. ⌜ r ≡ n - m ⌝ }
-{
-    if m < n { n - m } else { 0 }
-}
-
-// How many cells of a kind are free: those that are not in use.
-fn free_cells(a: &[u64], z: Shape, kind: u64) -> u64
-    requires { ⌜ Lent z (now a) ⌝ }
-    requires { ⌜ kind < 2 ⌝ }
-    ensures { λ r. ⌜ r ≡ freeCells z (now (a .entry)) kind ⌝ }
-{
-    less(
-        words::cells_of(z, kind),
-        words::kind_word(a, z, words::IN_USE, kind),
-    )
-}
-
 // The key stands at `hit`, in the chain from `front` on: its entry is replaced.
 fn replace(a: &[u64], z: Shape, root: u64, size: u64, hash: u64, front: u64, hit: u64) -> Plan
     requires { ⌜ Lent z (now a) ⌝ }
@@ -66,7 +49,7 @@ fn replace(a: &[u64], z: Shape, root: u64, size: u64, hash: u64, front: u64, hit
         root,
         size,
         front,
-        before: less(length, chains::length(a, z, hit)),
+        before: shares::less(length, chains::length(a, z, hit)),
         rest: links::kid(a, z, hit, 0),
         length,
         branches: reach.branches,
@@ -112,7 +95,7 @@ fn survey(a: &[u64], z: Shape, edition: u64, hash: u64, key: u64) -> Plan
 // off, and then what was written stands, but no slot is taken.
 fn write(a: &mut [u64], z: Shape, hash: u64, key: u64, value: u64, plan: Plan, slot: u64) -> Updated
     requires { ⌜ Lent z (now a) ⌝ }
-    requires { ⌜ (slot < z .slots) × (plan .before < freeCells z (now a) 1) ⌝ }
+    requires { ⌜ slot < z .slots ⌝ }
     ensures { λ r. ⌜ leaves (updated r) (now (a .exit)) ≡ writeTo z (now (a .entry)) hash key value plan slot ⌝ }
 {
     let leaf = chains::push_front(
@@ -137,26 +120,18 @@ fn write(a: &mut [u64], z: Shape, hash: u64, key: u64, value: u64, plan: Plan, s
     Updated::Edition {
         edition: slot,
         branches: plan.branches,
-        entries: plan.before + 1,
+        entries: shares::more(plan.before),
     }
 }
 
 // A plan carried out, if there are a slot and the cells for it.
 fn write_planned(a: &mut [u64], z: Shape, hash: u64, key: u64, value: u64, plan: Plan) -> Updated
     requires { ⌜ Lent z (now a) ⌝ }
-    ensures { λ r. ⌜ leaves (updated r) (now (a .exit)) ≡ roomTo z (now (a .entry)) hash key value plan ⌝ }
+    ensures { λ r. ⌜ leaves (updated r) (now (a .exit)) ≡ plannedTo z (now (a .entry)) hash key value plan ⌝ }
 {
-    match slots::lowest_free(&*a, z) {
-        Slot::At(slot) => {
-            if free_cells(&*a, z, 0) < plan.branches {
-                return Updated::Refused(Refusal::NoBranchCells);
-            }
-            if free_cells(&*a, z, 1) <= plan.before {
-                return Updated::Refused(Refusal::NoEntryCells);
-            }
-            write(a, z, hash, key, value, plan, slot)
-        }
-        Slot::NoneFree => Updated::Refused(Refusal::NoSlot),
+    match grants::find_room(&*a, z, plan.branches, shares::more(plan.before)) {
+        Room::At(slot) => write(a, z, hash, key, value, plan, slot),
+        Room::Refused(why) => Updated::Refused(why),
     }
 }
 
@@ -177,8 +152,8 @@ fn write_held(
     present: bool,
 ) -> Updated
     requires { ⌜ Lent z (now a) ⌝ }
-    requires { ⌜ edition < z .slots ⌝ }
-    ensures { λ r. ⌜ leaves (updated r) (now (a .exit)) ≡ writeHeld z (now (a .entry)) edition hash key value present ⌝ }
+    requires { ⌜ heldSlot z (now a) edition ≡ true ⌝ }
+    ensures { λ r. ⌜ leaves (updated r) (now (a .exit)) ≡ writeIn z (now (a .entry)) edition hash key value present ⌝ }
 {
     let found = survey(&*a, z, edition, hash, key);
     if wants(present, found) {

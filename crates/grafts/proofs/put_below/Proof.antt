@@ -5,7 +5,7 @@ use Rattle.grafts.proofs.put_below.Statement.{statement}
 use Rattle.grafts.proofs.put_below.Tie as tie
 
 returns : tie.Need-returns
-returns c = below-none _ _ _ _ _ _ (c .if1 .taken)
+returns c = below-none _ _ _ (c .if1 .taken)
 
 put-child-requires : tie.Need-put-child-requires
 put-child-requires c κs = search needs
@@ -14,7 +14,7 @@ same-length : tie.Need-same-length
 same-length c = search needs
 
 returns-2 : tie.Need-returns-2
-returns-2 c = below-some _ _ _ _ _ _ _ (c .before .before .before .before .if1 .left) (c .before .before .put-child .ensures)
+returns-2 c = below-some _ _ _ _ (c .before .before .before .before .if1 .left) (c .before .before .put-child .ensures)
 
 pub put-below-spec : {M : Type 1} → statement M
 put-below-spec = tie.close (tie.spec returns put-child-requires same-length returns-2)

@@ -1,6 +1,5 @@
 -- `updates::write` meets its contract. Assumes nothing.
-use Rattle.updates.proofs.StepLaws.{free-few, leaf-none, root-none, root-done}
-use native.Mathlib.Omega.{arith}
+use Rattle.updates.proofs.StepLaws.{leaf-none, root-none, root-done}
 use borrow.Author.Needs.{needs}
 use Rattle.updates.proofs.write.Statement.{statement}
 use Rattle.updates.proofs.write.Tie as tie
@@ -26,14 +25,14 @@ returns-2 c = root-none _ _ _ _ _ _ _ _ _ (c .before .before .before .before .be
 hold-requires : tie.Need-hold-requires
 hold-requires c κs = search needs
 
-add-t20 : tie.Need-add-t20
-add-t20 c = omega (arith, free-few _ (c .before .before .before .before .before .before .before .before .before .before .before .before .before .before .before .before .pre .0) (c .before .before .before .before .before .before .before .before .before .before .before .before .before .before .before .before .pre .1 .1))
+more-requires : tie.Need-more-requires
+more-requires c κs = search needs
 
 same-length-3 : tie.Need-same-length-3
 same-length-3 c = search needs
 
 returns-3 : tie.Need-returns-3
-returns-3 c = root-done _ _ _ _ _ _ _ _ _ (c .before .before .before .before .before .before .before .before .before .before .before .before .before .push-front .ensures) (c .before .before .before .before .before .before .before .before .before .before .if1 .left) _ _ (c .before .before .before .before .before .before .before .before .graft .ensures) _ (c .before .before .before .before .before .if2 .left) (c .before .before .before .hold .ensures)
+returns-3 c = root-done _ _ _ _ _ _ _ _ _ (c .before .before .before .before .before .before .before .before .before .before .before .before .before .push-front .ensures) (c .before .before .before .before .before .before .before .before .before .before .if1 .left) _ _ (c .before .before .before .before .before .before .before .before .graft .ensures) _ _ (c .more .ensures) (c .before .before .before .before .before .if2 .left) (c .before .before .before .hold .ensures)
 
 pub write-spec : {M : Type 1} → statement M
 write-spec =
@@ -46,6 +45,6 @@ write-spec =
     same-length-2
     returns-2
     hold-requires
-    add-t20
+    more-requires
     same-length-3
     returns-3)

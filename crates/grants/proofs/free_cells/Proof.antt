@@ -1,9 +1,8 @@
--- `updates::free_cells` meets its contract. Assumes nothing.
-use mathlib.Core.Path.{_∙_}
-use Rattle.updates.proofs.StepLaws.{free-is}
+-- `grants::free_cells` meets its contract. Assumes nothing.
+use Rattle.grants.specs.Rooms.{freeCells}
 use borrow.Author.Needs.{needs}
-use Rattle.updates.proofs.free_cells.Statement.{statement}
-use Rattle.updates.proofs.free_cells.Tie as tie
+use Rattle.grants.proofs.free_cells.Statement.{statement}
+use Rattle.grants.proofs.free_cells.Tie as tie
 
 cells-of-requires : tie.Need-cells-of-requires
 cells-of-requires c κs = search needs
@@ -15,7 +14,8 @@ less-requires : tie.Need-less-requires
 less-requires c κs = search needs
 
 returns : tie.Need-returns
-returns c = c .less .ensures ∙ free-is _ _ _ _ _ (c .before .before .cells-of .ensures) (c .before .kind-word .ensures)
+unfolding freeCells
+returns c = search needs
 
 pub free-cells-spec : {M : Type 1} → statement M
 free-cells-spec = tie.close (tie.spec cells-of-requires kind-word-requires less-requires returns)

@@ -1,0 +1,5 @@
+pub mod CaseLaws
+pub mod KeptLaws
+pub mod Meaning
+pub mod OnceLaws
+pub mod StepLaws

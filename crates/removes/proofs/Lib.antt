@@ -1,0 +1,11 @@
+pub mod CaseLaws
+pub mod InsideLaws
+pub mod SlotLaws
+pub mod NumberLaws
+pub mod MapLaws
+pub mod PlanLaws
+pub mod WriteLaws
+pub mod RoomLaws
+pub mod RemoveLaws
+pub mod ExactLaws
+pub mod StepLaws
