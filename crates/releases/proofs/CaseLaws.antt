@@ -4,7 +4,7 @@ use mathlib.Core.Path.{_≡_, refl}
 use mathlib.Core.Bool.{true, false}
 use mathlib.Core.List.{List}
 use native.Mathlib.Omega.{arith}
-use borrow.Author.Tests.{eqb-true, eqb-false, eq-eqb, ne-eqb, lt-ltb, le-ltb}
+use borrow.Author.Tests.{eqb-true, eq-eqb, ne-eqb, lt-ltb, le-ltb}
 use Rattle.cases.proofs.Cases.{both}
 use Rattle.layout.specs.declared.Shape.{Shape}
 use Rattle.layout.specs.Layout.{kindOf}
@@ -38,10 +38,6 @@ module _ (z : Shape) (a : List ℕ) (r : ℕ) where
   pub last-not : (word z a r 0 ≡ 1 → ⊥) → isLast z a r ≡ false
   unfolding isLast
   last-not ne = ne-eqb _ 1 ne
-
-  pub not-last : isLast z a r ≡ false → word z a r 0 ≡ 1 → ⊥
-  unfolding isLast
-  not-last e = eqb-false _ 1 e
 
   pub less-shared : 1 < word z a r 0 → lessWords z a r ≡ unshareWords z a r
   unfolding lessWords
