@@ -25,6 +25,10 @@ use Rattle.arena.proofs.Equivalent.{sound-local, held-slot}
 use Rattle.arena.proofs.Unique.{edition-one}
 use Rattle.arena.proofs.Few.{size-few, columns-live}
 
+-- a map that is canonical with the bits and depths of a shape
+abbrev pub Good : Shape → Map ℕ → Type 0
+Good z m = Canonical (segment (z .bits)) Word64 (z .depths) m
+
 -- the slots and the local form of a sound arena, at the shape of its header
 module _ (a : List ℕ) (s : Sound a) (z : Shape) (h : Header a z) where
   same-shape : s .shape ≡ z
@@ -53,7 +57,7 @@ module _ (a : List ℕ) (s : Sound a) (z : Shape) (h : Header a z) (e : ℕ) (m 
       }
 
 module _ (z : Shape) (a : List ℕ) (w : Allowed z) (e : ℕ) (m : Map ℕ) (k : Shelves z a e m) where
-  pub shelf-canonical : Canonical (segment (z .bits)) Word64 (z .depths) m
+  pub shelf-canonical : Good z m
   shelf-canonical = built-iff-canonical (rowIn z w) (row-is-right z w) m .0 (k .built)
 
   pub shelf-few : size m ≤ z .entries

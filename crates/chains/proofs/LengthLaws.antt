@@ -10,7 +10,6 @@ use Rattle.layout.specs.declared.Shape.{Shape}
 use Rattle.layout.specs.Layout.{names}
 use Rattle.layout.specs.Columns.{State}
 use Rattle.trie.specs.Trie.{Item}
-use Rattle.trie.specs.Cells.{ahead}
 use Rattle.trie.proofs.CopyLaws.{parts-length}
 use Rattle.arena.specs.Shows.{ShowsChain}
 use Rattle.lookup.proofs.FindLaws.{kind-other}
@@ -29,12 +28,11 @@ module _ (z : Shape) (σ : State) (live : (r : ℕ) → 0 < σ .count r → name
     pub length-there : lengthAt z σ q ≡ suc (length (s .parts .rest))
     length-there = length-shown (s .parts .at ∷ s .parts .rest) q (s .rest-shown)
 
-    pub length-before : lengthAt z σ r - lengthAt z σ q ≡ ahead h k xs
+    pub length-before : lengthAt z σ r - lengthAt z σ q ≡ length (s .parts .front)
     length-before =
         omega (
           arith,
           length-shown xs r (s .all-shown),
           length-there,
           parts-length h k xs (s .parts),
-          s .parts .ahead-is,
         )

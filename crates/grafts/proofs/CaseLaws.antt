@@ -6,9 +6,11 @@ use mathlib.Core.List.{List, [], _∷_}
 use Prim.Native.Nat.{ℕ, suc}
 use native.Mathlib.Omega.{arith}
 use lib.ListN.{length}
+use Rattle.segments.specs.Segments.{segment}
+use Rattle.layout.specs.declared.Shape.{Shape}
 use Rattle.trie.specs.Cells.{along}
 use Rattle.trie.specs.Entry.{Entry, matches, Got, absent, got, ifGot}
-use Rattle.trie.specs.Trie.{Item, Node, leaf, branch, Kids, put, single, none, item, chain, getNode, find, list-remove-first, push-front}
+use Rattle.trie.specs.Trie.{Item, Node, leaf, branch, Kids, put, single, none, item, Map, chain, getNode, get, find, list-remove-first, push-front}
 use Rattle.trie.proofs.ChainLaws.{find-hit, find-miss, copied-hit}
 use Rattle.trie.proofs.InsertCases.{InsertCase, in-chain, replaced, deeper, apart, new-child, in-child}
 use Rattle.trie.proofs.KidsLaws.{child-hit, child-put}
@@ -19,6 +21,10 @@ use Rattle.trie.proofs.PathNames.{along-leaf, along-found}
 unfoldable pub isThere : Got → Bool
 isThere (got v) = true
 isThere absent = false
+
+-- whether a map of this shape has a key
+abbrev pub hasKey : Shape → ℕ → ℕ → Map ℕ → Bool
+hasKey z h k m = isThere (get (segment (z .bits)) (z .depths) h k m)
 
 pub got-absent : (v : ℕ) (g : Got) → g ≡ got v → g ≡ absent → ⊥
 got-absent v g p q = let z : _≡_ {A = ℕ} 0 1 = cc in omega arith

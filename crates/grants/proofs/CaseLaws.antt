@@ -1,4 +1,4 @@
--- What an update leaves, case by case, on any words: the tests of specs/Rooms.antt in their order.
+-- What an update leaves, case by case, on any words: the tests of specs/Rooms.antt in their order, and its end.
 use Prim.Native.Nat.{ℕ, _≤_, _<_}
 use mathlib.Core.Path.{_≡_, sym, ap, _∙_, subst}
 use mathlib.Core.Bool.{Bool, true, false}
@@ -6,21 +6,22 @@ use mathlib.Core.List.{List}
 use mathlib.Core.Logic.{⊎-elim}
 use native.Mathlib.Omega.{arith}
 use borrow.Author.Tests.{lt-ltb, le-ltb}
-use Rattle.cases.proofs.Cases.{split, lt?}
+use Rattle.cases.proofs.Cases.{split, eq?, lt?}
 use Rattle.layout.specs.declared.Shape.{Shape}
 use Rattle.layout.specs.declared.Heading.the-variants.{Right, Wrong}
 use Rattle.layout.specs.Header.{headerOf}
 use Rattle.cells.specs.declared.Slot.the-variants as S
+use Rattle.cells.specs.Mirrors.{Wrote}
 use Rattle.cells.specs.Slots.{heldSlot, freeSlot}
 use Rattle.replies.specs.declared.Refusal.{Refusal}
 use Rattle.replies.specs.declared.Refusal.the-variants as Why
 use Rattle.replies.specs.Answers.{refused}
 use Rattle.replies.specs.Outcomes.{Outcome, leaves, onHeader}
-use Rattle.replies.proofs.AnswerLaws.{header-right, header-wrong}
+use Rattle.replies.proofs.AnswerLaws.{header-right, header-wrong, wrote-none, wrote-some}
 use Rattle.replies.proofs.Tables.{by-free}
 use Rattle.grants.specs.declared.Room.{Room}
 use Rattle.grants.specs.declared.Room.the-variants.{At, Refused}
-use Rattle.grants.specs.Rooms.{freeCells, enough, roomOf, onRoom, updateIn}
+use Rattle.grants.specs.Rooms.{freeCells, enough, roomOf, onRoom, updateIn, heldTo, holdTo}
 
 -- what a call knows of an update once it has read: whether the key is as it wants it, how many cells of each kind are taken, and
 -- what it does with a slot
@@ -143,3 +144,29 @@ module _ (z : Shape) (a : List ℕ) (e : ℕ) (u : Update) where
 
       not : (why : Refusal) → updateBy z a e u ≡ leaves (refused why) a → P (updateBy z a e u)
       not why q = is q (none why)
+
+-- THE CALL, BY WHAT WAS READ: p, where its definition reads q
+module _ {P : Type 0} (z : Shape) (a : List ℕ) (e : ℕ) (u : P → Update) (p q : P) (same : p ≡ q) (held : heldSlot z a e ≡ true)
+    (o : Outcome) where
+  pub read-goes : u p .wanted ≡ true → o ≡ onRoom a (roomOf z a (u p .branches) (u p .entries)) (u p .does)
+      → o ≡ updateBy z a e (u q)
+  read-goes there w = w ∙ sym (update-goes z a e (u p) held there) ∙ ap (λ (x : P). updateBy z a e (u x)) same
+
+  pub read-absent : u p .wanted ≡ false → o ≡ leaves (refused Why.Absent) a → o ≡ updateBy z a e (u q)
+  read-absent not w = w ∙ sym (update-absent z a e (u p) held not) ∙ ap (λ (x : P). updateBy z a e (u x)) same
+
+-- THE SLOT
+module _ (z : Shape) (s size branches entries : ℕ) (w : Wrote) where
+  pub hold-none : w .at ≡ 0 → holdTo z s size branches entries w ≡ leaves (refused Why.NoBranchCells) (w .words)
+  unfolding holdTo
+  hold-none q = wrote-none w Why.NoBranchCells (heldTo z s size branches entries) q
+
+  pub hold-some : (w .at ≡ 0 → ⊥) → holdTo z s size branches entries w ≡ heldTo z s size branches entries (w .at) (w .words)
+  unfolding holdTo
+  hold-some ne = wrote-some w Why.NoBranchCells (heldTo z s size branches entries) ne
+
+  -- what holds in both cases holds
+  pub by-root : (P : Outcome → Type 0) → P (leaves (refused Why.NoBranchCells) (w .words))
+      → P (heldTo z s size branches entries (w .at) (w .words)) → P (holdTo z s size branches entries w)
+  by-root P none some =
+      ⊎-elim (λ q. subst P (sym (hold-none q)) none) (λ ne. subst P (sym (hold-some ne)) some) (eq? (w .at) 0)

@@ -5,4 +5,5 @@ pub mod TestLaws
 pub mod NumberLaws
 pub mod TableLaws
 pub mod FreshLaws
+pub mod RootLaws
 pub mod MeansLaws

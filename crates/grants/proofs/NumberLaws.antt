@@ -19,8 +19,8 @@ use Rattle.replies.specs.Answers.{refused}
 use Rattle.replies.specs.Outcomes.{Outcome, leaves, onWrote}
 use Rattle.replies.proofs.AnswerLaws.{wrote-none, wrote-some}
 use Rattle.replies.proofs.Tables.{AllHeld, End, Gives, HeaderNumbered, Held, Numbered, Row, Unaltered, end, number, numbered, read, right-numbered, row}
-use Rattle.grants.specs.Rooms.{freeCells}
-use Rattle.grants.proofs.CaseLaws.{Update, updateBy, updateOf, by-cells, update-at, update-refused, update-damaged, update-right}
+use Rattle.grants.specs.Rooms.{freeCells, holdTo}
+use Rattle.grants.proofs.CaseLaws.{Update, updateBy, updateOf, by-cells, by-root, update-at, update-refused, update-damaged, update-right}
 use Rattle.grants.proofs.TestLaws.{Goes, by-tests, not-held, absent, no-slot, on-slot, no-branches, no-entries}
 
 -- THE TABLE on any words: its rows 5, 6 and 7, and an update that goes on gives one of three numbers
@@ -49,6 +49,10 @@ pub wrote-answers : (s : Wrote) (why : Refusal) (f : ℕ → List ℕ → Outcom
     → Answers (f (s .at) (s .words)) → Answers (onWrote s why f)
 wrote-answers s why f none some =
     ⊎-elim (λ e. rw (wrote-none s why f e) none) (λ ne. rw (wrote-some s why f ne) some) (eq? (s .at) 0)
+
+pub hold-answers : (z : Shape) (s size branches entries : ℕ) (w : Wrote) → Answers (holdTo z s size branches entries w)
+hold-answers z s size branches entries w =
+    by-root z s size branches entries w Answers (few-branches-answers (w .words)) (done-answers _ refl)
 
 -- THE CALL with a right header
 module _ (z : Shape) (a : List ℕ) (e : ℕ) (u : Update) (does : (s : ℕ) → Answers (u .does s)) {Lacks : Type 0}

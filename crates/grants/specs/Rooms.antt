@@ -1,18 +1,19 @@
 -- The call that insert, change and remove have in common, on any words: document 01, "Answer numbers", its tests 5 to 9 in its
--- order. Then comes what the call writes, which is an update's own.
+-- order. Then comes what the call writes, which is an update's own, but for its end: the slot that holds the new root.
 use Prim.Native.Nat.{ℕ, _-_}
 use mathlib.Core.Bool.{Bool, cond}
 use mathlib.Core.List.{List}
 use lib.Dec.{ltb}
 use Rattle.layout.specs.declared.Shape.{Shape}
 use Rattle.layout.specs.Layout.{cellsOf}
-use Rattle.layout.specs.Columns.{byKind}
+use Rattle.layout.specs.Columns.{byKind, setSlotWords}
 use Rattle.cells.specs.declared.Slot.{Slot}
 use Rattle.cells.specs.declared.Slot.the-variants as S
+use Rattle.cells.specs.Mirrors.{Wrote}
 use Rattle.cells.specs.Slots.{heldSlot, freeSlot}
 use Rattle.replies.specs.declared.Refusal.the-variants as Why
-use Rattle.replies.specs.Answers.{refused}
-use Rattle.replies.specs.Outcomes.{Outcome, leaves}
+use Rattle.replies.specs.Answers.{refused, doneTaking}
+use Rattle.replies.specs.Outcomes.{Outcome, leaves, onWrote}
 use Rattle.grants.specs.declared.Room.{Room}
 use Rattle.grants.specs.declared.Room.the-variants.{At, Refused}
 
@@ -45,3 +46,11 @@ updateIn z a e wanted branches entries f =
     cond (heldSlot z a e)
     (cond wanted (onRoom a (roomOf z a branches entries) f) (leaves (refused Why.Absent) a))
     (leaves (refused Why.NoSuchEdition) a)
+
+-- THE SLOT. It holds a root, and a map of this size; so many cells were taken.
+abbrev pub heldTo : Shape → ℕ → ℕ → ℕ → ℕ → ℕ → List ℕ → Outcome
+heldTo z s size branches entries r v = leaves (doneTaking s branches entries) (setSlotWords z v s 1 r size)
+
+-- after the writer of the path: where no branch cell could be taken, there is no root to hold
+unfoldable pub holdTo : Shape → ℕ → ℕ → ℕ → ℕ → Wrote → Outcome
+holdTo z s size branches entries w = onWrote w Why.NoBranchCells (heldTo z s size branches entries)

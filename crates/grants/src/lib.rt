@@ -1,6 +1,7 @@
-//! Room for an update: the lowest free slot, and as many free cells of each kind as the update takes. A layer of the shelf,
-//! below insert, change and remove, which differ in what they write once there is room. The call that they have in common, its
-//! tests in their order, is in specs/Rooms.antt, and what such a call promises in specs/Contracts.antt.
+//! Room for an update: the lowest free slot, and as many free cells of each kind as the update takes; and the update's end, where
+//! the slot holds the new root. A layer of the shelf, below insert, change and remove, which differ in what they write between
+//! the two. The call that they have in common, its tests in their order, is in specs/Rooms.antt, and what such a call promises in
+//! specs/Contracts.antt.
 
 use cells::Slot;
 use cells::shares;
@@ -8,10 +9,14 @@ use cells::slots;
 use layout::Shape;
 use layout::words;
 use replies::Refusal;
+use replies::Updated;
 ghost use mathlib.Core.Path.{_≡_};
 ghost use Prim.Native.Nat.{_<_};
 ghost use Rattle.layout.specs.Layout.{Lent};
-ghost use Rattle.grants.specs.Rooms.{freeCells, roomOf};
+ghost use Rattle.cells.specs.Mirrors.{wrote};
+ghost use Rattle.replies.specs.Answers.{updated};
+ghost use Rattle.replies.specs.Outcomes.{leaves};
+ghost use Rattle.grants.specs.Rooms.{freeCells, roomOf, heldTo, holdTo};
 
 // The slot for a new edition, or why there is no room for it.
 pub enum Room {
@@ -48,4 +53,46 @@ pub fn find_room(a: &[u64], z: Shape, branches: u64, entries: u64) -> Room
         }
         Slot::NoneFree => Room::Refused(Refusal::NoSlot),
     }
+}
+
+// A root in a slot, and the answer.
+pub fn hold_edition(
+    a: &mut [u64],
+    z: Shape,
+    slot: u64,
+    root: u64,
+    size: u64,
+    branches: u64,
+    entries: u64,
+) -> Updated
+    requires { ⌜ Lent z (now a) ⌝ }
+    requires { ⌜ slot < z .slots ⌝ }
+    ensures { λ r. ⌜ leaves (updated r) (now (a .exit)) ≡ heldTo z slot size branches entries root (now (a .entry)) ⌝ }
+{
+    slots::hold(&mut *a, z, slot, root, size);
+    Updated::Edition {
+        edition: slot,
+        branches,
+        entries,
+    }
+}
+
+// The same with the root that was written, which is 0 where no branch cell could be taken; then no slot is taken either.
+pub fn hold_root(
+    a: &mut [u64],
+    z: Shape,
+    slot: u64,
+    root: u64,
+    size: u64,
+    branches: u64,
+    entries: u64,
+) -> Updated
+    requires { ⌜ Lent z (now a) ⌝ }
+    requires { ⌜ slot < z .slots ⌝ }
+    ensures { λ r. ⌜ leaves (updated r) (now (a .exit)) ≡ holdTo z slot size branches entries (wrote root (now (a .entry))) ⌝ }
+{
+    if root == 0 {
+        return Updated::Refused(Refusal::NoBranchCells);
+    }
+    hold_edition(a, z, slot, root, size, branches, entries)
 }

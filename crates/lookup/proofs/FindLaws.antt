@@ -8,17 +8,15 @@ use native.Mathlib.Omega.{arith}
 use Rattle.sparse_array.specs.declared.Place.{Place}
 use Rattle.sparse_array.specs.Places.{placeOf}
 use Rattle.layout.specs.Layout.{has, kindOf, names}
-use Rattle.layout.specs.Columns.{columns, word, plainPlace, refs, State}
+use Rattle.layout.specs.Columns.{columns, slotWord, word, plainPlace, refs, State}
 use Rattle.layout.proofs.ColumnLaws.{plain-in, has-entry}
 use Rattle.lookup.specs.declared.Hit.{Hit}
 use Rattle.lookup.specs.Lookup.{hop, longest, valueAt, getBelow, childIn, childAt, namesKind, entryAt, pathEnd, hitFrom}
 use mathlib.Core.List.{List}
 use Rattle.cases.proofs.Cases.{split, both}
-use Rattle.segments.specs.Segments.{segment}
 use Rattle.layout.specs.declared.Shape.{Shape}
 use Rattle.layout.proofs.OffsetLaws.{names-low}
 use Rattle.trie.specs.Entry.{matches}
-use Rattle.trie.specs.Trie.{branch, chain}
 use Rattle.lookup.specs.declared.Hit.the-variants.{At, Nowhere}
 
 -- KINDS. A reference names a branch, or an entry, exactly if it names a cell of that kind.
@@ -153,6 +151,16 @@ module _ (z : Shape) (σ : State) (h k : ℕ) where
   pub search-over : (n r : ℕ) → n ≡ 0 → hitFrom z σ h k n r ≡ Nowhere
   unfolding hitFrom
   search-over n r e = rw e
+
+-- what is planned by the search below an edition's root, by what was read on the way
+pub survey-is : {A : Type 0} (plan : Shape → State → ℕ → ℕ → ℕ → ℕ → Hit → A) (z : Shape) (a : List ℕ) (e h k root size front : ℕ)
+    (hit : Hit) (p : A) → root ≡ slotWord z a e 1 → size ≡ slotWord z a e 2
+    → front ≡ pathEnd z (columns z a) h (z .depths) 0 root → hitFrom z (columns z a) h k (longest z) front ≡ hit
+    → p ≡ plan z (columns z a) root size h front hit
+    → p ≡ plan z (columns z a) (columns z a .root e) (columns z a .size e) h
+    (pathEnd z (columns z a) h (z .depths) 0 (columns z a .root e))
+    (hitFrom z (columns z a) h k (longest z) (pathEnd z (columns z a) h (z .depths) 0 (columns z a .root e)))
+survey-is plan z a e h k root size front hit p er es ef eh ep = rw (← er, ← es, ← ef, eh) ep
 
 -- the value below a root, by where the path ends
 pub value-below : (z : Shape) (a : List ℕ) (r h k front : ℕ) (v : Hit) → front ≡ pathEnd z (columns z a) h (z .depths) 0 r

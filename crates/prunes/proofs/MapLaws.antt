@@ -15,12 +15,14 @@ use Rattle.layout.specs.Columns.{State, columns}
 use Rattle.trie.specs.Entry.{Word64, got, ifGot}
 use Rattle.trie.specs.Trie.{Node, leaf, branch, none, kid, Map, empty, root, updated, get, getNode, list-remove-first, is-empty, is-single, tidy, remove, removeNode}
 use Rattle.trie.specs.Canon.{Some, Canonical}
-use Rattle.trie.specs.Cells.{branchesOn, leftTakes, removeTakes}
+use Rattle.trie.specs.Cells.{branchesOn, removeTakes}
+use Rattle.trie.proofs.CellLaws.{remove-branches-left}
 use Rattle.trie.proofs.PathLaws.{chainOf}
 use Rattle.trie.proofs.PathNames.{along-leaf}
 use Rattle.trie.proofs.RemoveCases.{RemoveCase, remove-case}
 use Rattle.arena.specs.Shows.{ShowsChain, ShowsMap}
 use Rattle.arena.specs.Local.{Local}
+use Rattle.arena.proofs.Shelved.{Good}
 use Rattle.cells.proofs.Made.{taking, Made}
 use Rattle.grafts.proofs.Meaning.{Names}
 use Rattle.grafts.proofs.SeenLaws.{Celled}
@@ -86,20 +88,15 @@ module _ (seg : ℕ → ℕ → ℕ) (d : ℕ) (b f : ℕ → ℕ) (h k : ℕ) w
   unfolding remove ifGot
   removed-root n m' v g q = cc (rw g at q)
 
-  pub removed-branches : (m m' : Map ℕ) → remove seg d b f h k m ≡ updated m'
-      → removeTakes seg d b f h k m .branches ≡ branchesOn seg d h m'
-  unfolding leftTakes
-  removed-branches m m' q = rw q
-
 module _ (z : Shape) (b f : ℕ → ℕ) (h k : ℕ) where
-  root-case : (n : Node ℕ) → Canonical (segment (z .bits)) Word64 (z .depths) (root n)
+  root-case : (n : Node ℕ) → Good z (root n)
       → RemoveCase (segment (z .bits)) Word64 b f h k (z .depths) [] n (removeNode (segment (z .bits)) b f (z .depths) 0 h k n)
   unfolding Canonical
   root-case n c = remove-case (segment (z .bits)) Word64 b f h k (z .depths) [] Some n c
 
 -- THE READING PASS
 module _ {z : Shape} {σ : State} (C : Celled z σ) (b f : ℕ → ℕ) (h k v : ℕ) where
-  pub map-left-means : (m m' : Map ℕ) → Canonical (segment (z .bits)) Word64 (z .depths) m
+  pub map-left-means : (m m' : Map ℕ) → Good z m
       → get (segment (z .bits)) (z .depths) h k m ≡ got v → remove (segment (z .bits)) (z .depths) b f h k m ≡ updated m'
       → (r : ℕ) → ShowsMap σ m r
       → (l : ℕ) → l ≡ length (list-remove-first f 0 h k (chainOf (segment (z .bits)) (z .depths) h m))
@@ -109,13 +106,13 @@ module _ {z : Shape} {σ : State} (C : Celled z σ) (b f : ℕ → ℕ) (h k v :
   map-left-means (root n) m' c g q r shown l e =
       let seg = segment (z .bits) in
       let o = removeNode seg b f (z .depths) 0 h k n in
-      rw (removed-branches seg (z .depths) b f h k (root n) m' q, ← removed-root seg (z .depths) b f h k n m' v g q)
+      rw (remove-branches-left seg (z .depths) b f (root n) h k m' q, ← removed-root seg (z .depths) b f h k n m' v g q)
       (left-means C b f h k v (root-case z b f h k n c) (omega arith) g r shown l e
       ∙ tidy-left seg (z .depths) h _ o (unfold branchesOn in refl))
 
 -- THE NEW PATH, where something is left: the map without the entry is shown, and as many branches are taken
 module _ {z : Shape} {a : List ℕ} {free : ℕ → List ℕ} (l : Lent z a) (b f : ℕ → ℕ) (h k v x : ℕ) where
-  pub map-prune-means : (m : Map ℕ) (n : Node ℕ) → Canonical (segment (z .bits)) Word64 (z .depths) m
+  pub map-prune-means : (m : Map ℕ) (n : Node ℕ) → Good z m
       → get (segment (z .bits)) (z .depths) h k m ≡ got v
       → remove (segment (z .bits)) (z .depths) b f h k m ≡ updated (root n) → Local z (columns z a) (λ q. ind q x) free
       → (r c : ℕ) → ShowsMap (columns z a) m r
@@ -129,7 +126,7 @@ module _ {z : Shape} {a : List ℕ} {free : ℕ → List ℕ} (l : Lent z a) (b 
       let seg = segment (z .bits) in
       let (full, same) = tidy-root _ n (removed-root seg (z .depths) b f h k o (root n) v g q) in
       let e : c ≡ leftOn z (z .depths) 0 h (removeNode seg b f (z .depths) 0 h k o)
-      = many ∙ removed-branches seg (z .depths) b f h k (root o) (root n) q
+      = many ∙ remove-branches-left seg (z .depths) b f (root o) h k (root n) q
       ∙ unfold branchesOn in (ap (leftOn z (z .depths) 0 h) (sym same)) in
       rw (e, ← same)
       (prune-means l b f h k v x I (root-case z b f h k o good) (omega arith) g r shown end full (omega arith) (rw e at named))

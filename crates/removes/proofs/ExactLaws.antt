@@ -2,16 +2,15 @@
 -- before 9, and 6 exactly where the key is not there. The names that stand in the counts play no part.
 use Prim.Native.Nat.{ℕ}
 use mathlib.Core.Path.{_≡_, sym, _∙_}
-use mathlib.Core.Bool.{Bool, false}
+use mathlib.Core.Bool.{false}
 use mathlib.Core.List.{List}
-use Rattle.segments.specs.Segments.{segment}
 use Rattle.layout.specs.declared.Shape.{Shape}
 use Rattle.layout.specs.Header.{Header}
-use Rattle.trie.specs.Trie.{Map, get}
+use Rattle.trie.specs.Trie.{Map}
 use Rattle.trie.specs.Cells.{Taken}
 use Rattle.arena.specs.Sound.{Sound}
 use Rattle.arena.specs.Holds.{Holds}
-use Rattle.grafts.proofs.CaseLaws.{isThere}
+use Rattle.grafts.proofs.CaseLaws.{hasKey}
 use Rattle.replies.proofs.Tables.{Held, HeaderNumbered}
 use Rattle.grants.proofs.TableLaws.{UpdateWhen}
 use Rattle.grants.proofs.MeansLaws as grants
@@ -20,12 +19,9 @@ use Rattle.removes.proofs.MapLaws.{takes}
 use Rattle.removes.proofs.RoomLaws.{removal-found, removal-branches, removal-entries}
 use Rattle.removes.proofs.RemoveLaws.{writer}
 
--- what a removal of the key from the map takes, and whether the map has it
+-- what a removal of the key from the map takes
 abbrev pub needs : Shape → ℕ → ℕ → Map ℕ → Taken
 needs z h k m = takes z (λ t. t) (λ j. j) h k m
-
-abbrev pub hasKey : Shape → ℕ → ℕ → Map ℕ → Bool
-hasKey z h k m = isThere (get (segment (z .bits)) (z .depths) h k m)
 
 -- m is the map that edition e holds, where it is held
 pub exactly-numbered : (a : List ℕ) → Sound a → (e h k : ℕ) (m : Map ℕ) → ((z : Shape) → Header a z → Held z a e → Holds z a e m)

@@ -5,14 +5,15 @@ use mathlib.Core.List.{List}
 use Rattle.layout.specs.declared.Shape.{Shape}
 use Rattle.layout.specs.Layout.{Lent}
 use Rattle.cells.specs.Frame.{Kept}
-use Rattle.cells.specs.Mirrors.{Wrote, wrote}
-use Rattle.cells.proofs.KeptLaws.{kept-refl, kept-trans, slots-kept}
+use Rattle.cells.specs.Mirrors.{wrote}
+use Rattle.cells.proofs.KeptLaws.{kept-refl, kept-trans}
 use Rattle.chains.proofs.KeptLaws.{take-kept}
 use Rattle.prunes.proofs.KeptLaws.{prune-kept}
 use Rattle.replies.specs.Outcomes.{Outcome}
+use Rattle.grants.proofs.InsideLaws.{held-kept, hold-kept}
 use Rattle.removes.specs.declared.Cut.{Cut}
 use Rattle.removes.specs.Calls.{cutTo}
-use Rattle.removes.proofs.CaseLaws.{chainWrote, rootWrote, slotWrote, by-writing}
+use Rattle.removes.proofs.CaseLaws.{chainWrote, rootWrote, by-writing}
 
 module _ {z : Shape} {a : List ℕ} (l : Lent z a) (h : ℕ) (p : Cut) where
   chain-kept : Kept z a (chainWrote z a h p .words)
@@ -25,8 +26,7 @@ module _ {z : Shape} {a : List ℕ} (l : Lent z a) (h : ℕ) (p : Cut) where
 
   pub cut-kept : (s : ℕ) → s < z .slots → Kept z a (cutTo z a h p s .words)
   cut-kept s ls =
-      by-writing z a h p s (λ (o : Outcome). Kept z a (o .words)) (then-slot (wrote 0 a) (kept-refl z a)) chain-kept root-kept
-      (then-slot (rootWrote z a h p) root-kept)
-    where
-      then-slot : (w : Wrote) → Kept z a (w .words) → Kept z a (slotWrote z p s w)
-      then-slot w k = kept-trans k (slots-kept z (w .words) s 1 (w .at) (p .size) (l .allowed .wide) ls)
+      by-writing z a h p s (λ (o : Outcome). Kept z a (o .words))
+      (held-kept (l .allowed) s (p .size) (p .branches) (p .before) ls (wrote 0 a) (kept-refl z a))
+      chain-kept
+      (hold-kept (l .allowed) s (p .size) (p .branches) (p .before) ls (rootWrote z a h p) root-kept)

@@ -1,28 +1,17 @@
--- A removal on a map, where the key is there: the size and the cells taken, by the chain at the end of the path; and what the reading
--- pass makes of what is left.
+-- A removal on a map, where the key is there: the result and its size; and what the reading pass makes of what is left.
 use Prim.Native.Nat.{ℕ, zero, suc, _+_, _<_}
 use mathlib.Core.Path.{_≡_, refl, sym, _∙_}
 use mathlib.Core.Bool.{Bool, true, false}
 use native.Mathlib.Omega.{arith}
-use lib.ListN.{length}
 use Rattle.segments.specs.Segments.{segment}
 use Rattle.layout.specs.declared.Shape.{Shape}
 use Rattle.trie.specs.Entry.{Word64, got}
-use Rattle.trie.specs.Trie.{Map, empty, root, Updated, updated, chain, get, size, remove}
+use Rattle.trie.specs.Trie.{Map, empty, root, Updated, updated, get, size, remove}
 use Rattle.trie.specs.Canon.{Canonical}
-use Rattle.trie.specs.Cells.{Taken, branchesOn, leftTakes, removeTakes}
-use Rattle.trie.specs.Names.{onMap}
-use Rattle.trie.proofs.CellLaws.{remove-entry-names}
-use Rattle.trie.proofs.CopyLaws.{Parts, before-there}
+use Rattle.trie.specs.Cells.{Taken, branchesOn, removeTakes}
 use Rattle.trie.proofs.MapLaws.{remove-there, size-remove}
-use Rattle.trie.proofs.PathLaws.{chainOf, get-chain, before-chain}
-use Rattle.trie.proofs.PathNames.{chain-within}
-use Rattle.trie.proofs.Sums.{gone-within, news-ones}
-use Rattle.prunes.proofs.MapLaws.{leftMap, left-root, single-branches, removed-branches}
+use Rattle.prunes.proofs.MapLaws.{leftMap, left-root, single-branches}
 use Rattle.removes.specs.Calls.{branchesLeft, noneLeft}
-
-abbrev pub Good : Shape → Map ℕ → Type 0
-Good z m = Canonical (segment (z .bits)) Word64 (z .depths) m
 
 -- remove on a map of this shape, and the cells that it takes
 abbrev pub without : Shape → (ℕ → ℕ) → (ℕ → ℕ) → ℕ → ℕ → Map ℕ → Updated ℕ
@@ -56,32 +45,3 @@ module _ (seg : ℕ → ℕ → ℕ) (b f : ℕ → ℕ) (h k : ℕ) where
       → size m' + 1 ≡ size m
   size-left zero m m' l c q = absurd (omega arith)
   size-left (suc d) m m' l c q = size-remove seg d Word64 b f h k m m' q c
-
-  -- THE ENTRIES TAKEN
-  pub entries-before : (d v : ℕ) (m m' : Map ℕ) → get seg d h k m ≡ got v → remove seg d b f h k m ≡ updated m'
-      → (p : Parts h k (chainOf seg d h m)) → removeTakes seg d b f h k m .entries ≡ length (p .front)
-  unfolding leftTakes
-  entries-before d v m m' g q p =
-      rw q
-      (before-chain seg d h k m
-      ∙ before-there h k (chainOf seg d h m) v (sym (get-chain seg d h k m) ∙ g) p)
-
-  -- "an empty result takes none"
-  pub none-before : (d : ℕ) (m : Map ℕ) → 0 < d → Canonical seg Word64 d m → remove seg d b f h k m ≡ updated empty
-      → removeTakes seg d b f h k m .entries ≡ 0
-  unfolding onMap remove
-  none-before zero m l c q = absurd (omega arith)
-  none-before (suc d) empty l c q = let n : _≡_ {A = ℕ} 0 1 = cc in absurd (omega arith)
-  none-before (suc d) (root n) l c q =
-      let w : ℕ → ℕ = λ x. 1 in
-      omega (
-        arith,
-        remove-entry-names seg d Word64 b f w h k (root n) empty q c,
-        gone-within w h k (chain seg (suc d) 0 h n),
-        chain-within seg w (suc d) 0 h n,
-        news-ones w f (λ j. refl) 0 (removeTakes seg (suc d) b f h k (root n) .entries),
-      )
-
-  pub none-branches : (d : ℕ) (m : Map ℕ) → remove seg d b f h k m ≡ updated empty → removeTakes seg d b f h k m .branches ≡ 0
-  unfolding branchesOn
-  none-branches d m q = removed-branches seg d b f h k m empty q

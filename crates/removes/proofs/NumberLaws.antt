@@ -10,7 +10,7 @@ use Rattle.layout.specs.Header.{Header}
 use Rattle.replies.proofs.Tables.{Gives, HeaderNumbered, Unaltered, number, read}
 use Rattle.grants.specs.Rooms.{freeCells}
 use Rattle.grants.proofs.TestLaws.{Goes}
-use Rattle.grants.proofs.NumberLaws.{AnyWhen, Answers, few-branches-answers, few-entries-answers, done-answers, update-answers, update-unaltered, update-few-branches, update-few-entries}
+use Rattle.grants.proofs.NumberLaws.{AnyWhen, Answers, few-entries-answers, done-answers, hold-answers, update-answers, update-unaltered, update-few-branches, update-few-entries}
 use Rattle.removes.specs.declared.Cut.{Cut}
 use Rattle.removes.specs.Calls.{cutOf, cutTo, removeIn, removeOf}
 use Rattle.removes.proofs.CaseLaws.{removing, by-writing}
@@ -18,7 +18,7 @@ use Rattle.removes.proofs.CaseLaws.{removing, by-writing}
 -- a removal that goes on gives 8, 9 or 0, and a refusal's values are zeros
 cut-answers : (z : Shape) (a : List ℕ) (h : ℕ) (p : Cut) (s : ℕ) → Answers (cutTo z a h p s)
 cut-answers z a h p s =
-    by-writing z a h p s Answers (done-answers _ refl) (few-entries-answers _) (few-branches-answers _) (done-answers _ refl)
+    by-writing z a h p s Answers (done-answers _ refl) (few-entries-answers _) (hold-answers z s (p .size) _ _ _)
 
 -- 6: "remove: key not there", as the reading pass finds it
 abbrev pub NotFound : List ℕ → ℕ → ℕ → ℕ → Shape → Type 0

@@ -12,22 +12,24 @@ use Rattle.layout.specs.Columns.{State, columns}
 use Rattle.layout.proofs.SizeLaws.{row-is-right}
 use Rattle.trie.specs.Entry.{Word64, Got, absent, got}
 use Rattle.trie.specs.Trie.{Item, Map, updated, get, size, list-remove-first}
+use Rattle.trie.proofs.CellLaws.{remove-branches-left, remove-entries-there}
 use Rattle.trie.proofs.CopyLaws.{copies, copies-length, Parts, removed-there, parts-length}
 use Rattle.trie.proofs.PathLaws.{chainOf, get-chain}
 use Rattle.arena.specs.Shows.{ShowsChain, ShowsMap}
+use Rattle.arena.proofs.Shelved.{Good}
 use Rattle.lookup.specs.Lookup.{pathEnd}
 use Rattle.lookup.proofs.Meaning.{live-named}
 use Rattle.lookup.proofs.SplitLaws.{split-rest, map-hit-there, map-hit-none}
 use Rattle.chains.specs.Chains.{lengthAt}
 use Rattle.chains.proofs.LengthLaws.{length-shown, length-before}
-use Rattle.grafts.proofs.CaseLaws.{isThere, is-there, is-absent}
+use Rattle.grafts.proofs.CaseLaws.{hasKey, is-there, is-absent}
 use Rattle.grafts.proofs.SeenLaws.{words-celled}
 use Rattle.prunes.specs.Prunes.{leftFrom}
-use Rattle.prunes.proofs.MapLaws.{leftMap, map-left-means, removed-branches}
+use Rattle.prunes.proofs.MapLaws.{leftMap, map-left-means}
 use Rattle.removes.specs.declared.Cut.{Cut}
 use Rattle.removes.specs.Calls.{branchesLeft, noneLeft, cutting, cutOf}
 use Rattle.removes.proofs.CaseLaws.{cut-there, cut-absent}
-use Rattle.removes.proofs.MapLaws.{Good, without, takes, isNone, none-left, branches-left, size-left, entries-before}
+use Rattle.removes.proofs.MapLaws.{without, takes, isNone, none-left, branches-left, size-left}
 
 -- what the cut p says of the map m below the root r and of the result m', for new cells of these names: `copied` are the entries that
 -- are copied, `at` is the one that is taken out, and `shared` those that follow it
@@ -64,10 +66,10 @@ module _ {z : Shape} {a : List ℕ} (l : Lent z a) (e h k : ℕ) (m : Map ℕ) (
   chainIn = chainOf seg (z .depths) h m
 
   -- WHETHER THE KEY IS THERE
-  pub cut-found : cutOf z a e h k .found ≡ isThere (get (segment (z .bits)) (z .depths) h k m)
+  pub cut-found : cutOf z a e h k .found ≡ hasKey z h k m
   cut-found = by (get seg (z .depths) h k m) refl
     where
-      by : (g : Got) → get seg (z .depths) h k m ≡ g → cutOf z a e h k .found ≡ isThere (get seg (z .depths) h k m)
+      by : (g : Got) → get seg (z .depths) h k m ≡ g → cutOf z a e h k .found ≡ hasKey z h k m
       by (got v) g =
           let (q, y, s) = map-hit-there z a (l .allowed) Word64 h k m r good shown v g in
           rw (cut-there z a e h k q y) (unfold cutting in (sym (is-there v refl g)))
@@ -100,15 +102,15 @@ module _ {z : Shape} {a : List ℕ} (l : Lent z a) (e h k : ℕ) (m : Map ℕ) (
         let p : Parts h k chainIn = s .parts in
         let left = map-left p (s .all-shown) in
         let ahead : lengthAt z ρ front - lengthAt z ρ i ≡ length (p .front)
-        = length-before z ρ (live-named z a (l .allowed)) s ∙ sym (p .ahead-is) in
+        = length-before z ρ (live-named z a (l .allowed)) s in
         let some = row-is-right z (l .allowed) .some-depths in
         rw (cut-there z a e h k i y)
         (record {
           makes = q;
           branches-is =
               ap branchesLeft left
-              ∙ branches-left seg (z .depths) h _ m' (removed-branches seg (z .depths) b f h k m m' q);
-          before-is = ahead ∙ sym (entries-before seg b f h k (z .depths) v m m' g q p);
+              ∙ branches-left seg (z .depths) h _ m' (remove-branches-left seg (z .depths) b f m h k m' q);
+          before-is = ahead ∙ sym (remove-entries-there seg (z .depths) b f m h k m' q v g p);
           empty-is = ap noneLeft left ∙ none-left _ m';
           size-is = omega (arith, sized, size-left seg b f h k (z .depths) m m' some good q);
           root-is = refl;

@@ -19,15 +19,15 @@ use Rattle.trie.proofs.CellLaws.{remove-most}
 use Rattle.arena.specs.Sound.{Sound}
 use Rattle.arena.specs.Local.{Local}
 use Rattle.arena.specs.Holds.{Holds}
-use Rattle.arena.proofs.Shelved.{held-shelves, shelf-canonical}
-use Rattle.grafts.proofs.CaseLaws.{isThere, is-absent}
+use Rattle.arena.proofs.Shelved.{Good, held-shelves, shelf-canonical}
+use Rattle.grafts.proofs.CaseLaws.{hasKey, is-absent}
 use Rattle.grants.proofs.FreshLaws.{branchNames, entryNames}
 use Rattle.grants.proofs.MeansLaws.{Does}
 use Rattle.removes.specs.declared.Cut.{Cut}
 use Rattle.removes.specs.Calls.{cutOf}
 use Rattle.removes.specs.Contracts.{removeStep}
 use Rattle.removes.proofs.CaseLaws.{removing}
-use Rattle.removes.proofs.MapLaws.{Good, takes, made-there}
+use Rattle.removes.proofs.MapLaws.{takes, made-there}
 use Rattle.removes.proofs.PlanLaws.{Cuts, cut-found, cut-means}
 use Rattle.removes.proofs.WriteLaws.{cut-writes}
 
@@ -38,7 +38,7 @@ module _ (a : List ℕ) (S : Sound a) (z : Shape) (head : Header a z) (e h k : �
   good : Good z m
   good = shelf-canonical z a (head .allowed) e m (held-shelves a S z head e m E)
 
-  pub removal-found : cutOf z a e h k .found ≡ isThere (get (segment (z .bits)) (z .depths) h k m)
+  pub removal-found : cutOf z a e h k .found ≡ hasKey z h k m
   removal-found = cut-found lent e h k m good (E .shows)
 
   -- WHERE THE KEY IS THERE

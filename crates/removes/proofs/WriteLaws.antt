@@ -12,31 +12,33 @@ use Rattle.counts.proofs.CountLaws.{ind-other}
 use Rattle.segments.specs.Segments.{segment}
 use Rattle.layout.specs.declared.Shape.{Shape}
 use Rattle.layout.specs.Layout.{Lent}
-use Rattle.layout.specs.Columns.{State, columns, setSlotWords}
+use Rattle.layout.specs.Columns.{State, columns}
 use Rattle.layout.proofs.SizeLaws.{row-is-right}
-use Rattle.trie.specs.Entry.{got}
-use Rattle.trie.specs.Trie.{Item, Node, Map, empty, root, get, size, list-remove-first}
+use Rattle.trie.specs.Entry.{Word64, got}
+use Rattle.trie.specs.Trie.{Item, Node, Map, empty, root, get, list-remove-first}
+use Rattle.trie.proofs.CellLaws.{empty-takes-no-branch, empty-takes-no-entry}
 use Rattle.trie.proofs.CopyLaws.{copies}
 use Rattle.trie.proofs.PathLaws.{chainOf}
 use Rattle.arena.specs.Shows.{ShowsChain, ShowsMap}
 use Rattle.arena.specs.Local.{Local, Grow, SameSlots}
 use Rattle.arena.proofs.LocalLaws.{rehand, refree}
-use Rattle.arena.proofs.Frames.{grow-refl, grow-trans, slots-refl, slots-trans, map-kept, slots-at, slot-trans}
+use Rattle.arena.proofs.Frames.{grow-refl, slots-refl, map-kept}
+use Rattle.arena.proofs.Shelved.{Good}
 use Rattle.cells.specs.Frame.{Kept}
 use Rattle.cells.specs.Mirrors.{Wrote, wrote}
-use Rattle.cells.proofs.KeptLaws.{kept-refl, kept-trans, kept-lent, slots-kept}
+use Rattle.cells.proofs.KeptLaws.{kept-refl, kept-lent}
 use Rattle.cells.proofs.Made.{left, taking, Made, none-taken}
-use Rattle.cells.proofs.Meaning.{hold-means}
 use Rattle.chains.specs.Chains.{takeFrom}
 use Rattle.chains.proofs.Meaning.{take-none, take-means}
 use Rattle.prunes.proofs.MapLaws.{map-prune-means}
 use Rattle.replies.specs.Answers.{doneTaking}
 use Rattle.replies.specs.Outcomes.{leaves}
-use Rattle.grants.proofs.FreshLaws.{branchNames, entryNames, leftBy, Written}
+use Rattle.grants.proofs.CaseLaws.{hold-some}
+use Rattle.grants.proofs.FreshLaws.{branchNames, entryNames, Written}
+use Rattle.grants.proofs.RootLaws.{Rooted, path-rooted, slot-means}
 use Rattle.removes.specs.declared.Cut.{Cut}
 use Rattle.removes.specs.Calls.{lacks, cutTo}
-use Rattle.removes.proofs.CaseLaws.{chainWrote, rootWrote, cut-none, cut-done}
-use Rattle.removes.proofs.MapLaws.{Good, none-before, none-branches}
+use Rattle.removes.proofs.CaseLaws.{chainWrote, rootWrote, cut-none, cut-goes}
 use Rattle.removes.proofs.PlanLaws.{Cuts}
 
 -- nothing in hand is as the reference 0 in hand
@@ -96,36 +98,6 @@ module _ {z : Shape} {a : List ℕ} {free : ℕ → List ℕ} (l : Lent z a) (I 
     take-chained [] (y ∷ ys) h len shown fits = some-chained [] (y ∷ ys) (omega arith) h len shown fits
     take-chained (y ∷ es) ys h len shown fits = some-chained (y ∷ es) ys (omega arith) h len shown fits
 
--- WHAT STANDS BEFORE THE SLOT IS WRITTEN: the map m below the reference in hand
-record Rooted (z : Shape) (a : List ℕ) (free : ℕ → List ℕ) (branches entries : ℕ) (m : Map ℕ) (w : Wrote) : Type 0 where
-  pub kept : Kept z a (w .words)
-  pub local : Local z (columns z (w .words)) (λ r. ind r (w .at)) (leftBy branches entries free)
-  pub grow : Grow (columns z a) (columns z (w .words))
-  pub slots : SameSlots (columns z a) (columns z (w .words))
-  pub shows : ShowsMap (columns z (w .words)) m (w .at)
-
--- and then the slot holds it
-slot-means : {z : Shape} {a : List ℕ} {free : ℕ → List ℕ} {branches entries : ℕ} {m : Map ℕ} {w : Wrote} (s n : ℕ)
-    → Rooted z a free branches entries m w → Lent z a → n ≡ size m → s < z .slots → (columns z a .held s ≡ 1 → ⊥)
-    → Written z a free branches entries s m (setSlotWords z (w .words) s 1 (w .at) n)
-slot-means {z} {m = m} {w = w} s n R l sized ls away =
-    let lent : Lent z (w .words) = kept-lent (R .kept) l in
-    let T = hold-means (λ q. 0) s (w .at) n lent ls (λ y. away (sym (slots-at (R .slots) s .held-eq) ∙ y))
-    (rehand _ (λ q nz. omega arith) (R .local)) in
-    record {
-      kept = kept-trans (R .kept) (slots-kept z (w .words) s 1 (w .at) n (lent .allowed .wide) ls);
-      local = T .local;
-      grow = grow-trans (R .grow) (T .grow);
-      others = λ j ne. slot-trans (slots-at (R .slots) j) (T .others j ne);
-      edition =
-          record {
-            slot = ls;
-            held = T .held-is;
-            shows = rw (T .root-is) (map-kept (T .grow) m (w .at) (R .shows));
-            sized = T .size-is ∙ sized;
-          };
-    }
-
 -- WHAT IT COMES TO
 module _ {z : Shape} {a : List ℕ} {free : ℕ → List ℕ} (l : Lent z a) (I : Local z (columns z a) (λ r. 0) free) (h k v : ℕ)
     (p : Cut) (m : Map ℕ) (good : Good z m) (g : get (segment (z .bits)) (z .depths) h k m ≡ got v) (r : ℕ)
@@ -144,8 +116,8 @@ module _ {z : Shape} {a : List ℕ} {free : ℕ → List ℕ} (l : Lent z a) (I 
   unfolding ShowsMap
   none-rooted P =
       let some = row-is-right z (l .allowed) .some-depths in
-      let no-branches : p .branches ≡ 0 = P .branches-is ∙ none-branches seg bn fn h k (z .depths) m (P .makes) in
-      let no-entries : p .before ≡ 0 = P .before-is ∙ none-before seg bn fn h k (z .depths) m some good (P .makes) in
+      let no-branches : p .branches ≡ 0 = P .branches-is ∙ empty-takes-no-branch seg Word64 bn fn h k (z .depths) m (P .makes) in
+      let no-entries : p .before ≡ 0 = P .before-is ∙ empty-takes-no-entry seg Word64 bn fn h k (z .depths) m some good (P .makes) in
       rw (no-branches, no-entries)
       (record {
         kept = kept-refl z a;
@@ -176,16 +148,7 @@ module _ {z : Shape} {a : List ℕ} {free : ℕ → List ℕ} (l : Lent z a) (I 
         (C .shows) (P .branches-is) room-0 (λ u lu. ap bn (omega arith))
 
     some-rooted : Rooted z a free (p .branches) (p .before) (root n) (rootWrote z a h p)
-    some-rooted =
-        let C = chain-made in
-        let (M, made) = root-made in
-        record {
-          kept = kept-trans (C .kept) (M .kept);
-          local = M .local;
-          grow = grow-trans (C .grow) (M .grow);
-          slots = slots-trans (C .slots) (M .slots);
-          shows = made;
-        }
+    some-rooted = let C = chain-made in path-rooted (C .kept) (C .grow) (C .slots) (root-made .0) (root-made .1)
 
   -- either
   pub cut-writes : (m' : Map ℕ) → Cuts z a (branchNames free (p .branches)) (entryNames free) h k m m' r p
@@ -196,6 +159,6 @@ module _ {z : Shape} {a : List ℕ} {free : ℕ → List ℕ} (l : Lent z a) (I 
       (_, cut-none z a h p s (P .empty-is), slot-means s (p .size) (none-rooted P) l (P .size-is) ls away)
   cut-writes (root n) P s ls away = (
     _,
-    cut-done z a h p s (P .empty-is) (chain-made n P .enough) (root-made n P .0 .some),
+    cut-goes z a h p s (P .empty-is) (chain-made n P .enough) ∙ hold-some z s (p .size) _ _ _ (root-made n P .0 .some),
     slot-means s (p .size) (some-rooted n P) l (P .size-is) ls away,
   )

@@ -6,7 +6,7 @@ use mathlib.Core.List.{List}
 use lib.Dec.{eqb, ltb}
 use Rattle.layout.specs.declared.Shape.{Shape}
 use Rattle.layout.specs.Header.{headerOf}
-use Rattle.layout.specs.Columns.{State, columns, setSlotWords}
+use Rattle.layout.specs.Columns.{State, columns}
 use Rattle.lookup.specs.declared.Hit.{Hit}
 use Rattle.lookup.specs.declared.Hit.the-variants as H
 use Rattle.lookup.specs.Lookup.{pathEnd, hitFrom, longest}
@@ -16,9 +16,9 @@ use Rattle.prunes.specs.declared.Left.{Left}
 use Rattle.prunes.specs.declared.Left.the-variants as L
 use Rattle.prunes.specs.Prunes.{leftFrom, pruneFrom}
 use Rattle.replies.specs.declared.Refusal.the-variants as Why
-use Rattle.replies.specs.Answers.{refused, doneTaking}
-use Rattle.replies.specs.Outcomes.{Outcome, leaves, onHeader, onWrote}
-use Rattle.grants.specs.Rooms.{roomOf, onRoom, updateIn}
+use Rattle.replies.specs.Answers.{refused}
+use Rattle.replies.specs.Outcomes.{Outcome, leaves, onHeader}
+use Rattle.grants.specs.Rooms.{roomOf, onRoom, updateIn, heldTo, holdTo}
 use Rattle.removes.specs.declared.Cut.{Cut}
 
 -- THE READING PASS. The key stands at q, in the chain from `front` on: the entries before it are copied, those behind it shared.
@@ -62,10 +62,8 @@ cutOf z a e h k =
     let σ = columns z a in cutFrom z σ (σ .root e) (σ .size e) h k (pathEnd z σ h (z .depths) 0 (σ .root e))
 
 -- WRITING. The chain without the entry, then the path above it, then the slot; "an empty result takes none".
-unfoldable pub prunedTo : Shape → ℕ → Cut → ℕ → ℕ → List ℕ → Outcome
-prunedTo z h p s leaf w =
-    onWrote (pruneFrom z h leaf (z .depths) 0 (p .root) w) Why.NoBranchCells
-    (λ r v. leaves (doneTaking s (p .branches) (p .before)) (setSlotWords z v s 1 r (p .size)))
+abbrev pub prunedTo : Shape → ℕ → Cut → ℕ → ℕ → List ℕ → Outcome
+prunedTo z h p s leaf w = holdTo z s (p .size) (p .branches) (p .before) (pruneFrom z h leaf (z .depths) 0 (p .root) w)
 
 -- no cell could be taken for a copy
 unfoldable pub lacks : ℕ → ℕ → Bool
@@ -79,7 +77,7 @@ takeTo z a h p s = chainTo z h p s (takeFrom z (p .before) (p .front) (p .rest) 
 
 unfoldable pub cutTo : Shape → List ℕ → ℕ → Cut → ℕ → Outcome
 cutTo z a h p s =
-    cond (p .empty) (leaves (doneTaking s (p .branches) (p .before)) (setSlotWords z a s 1 0 (p .size))) (takeTo z a h p s)
+    cond (p .empty) (heldTo z s (p .size) (p .branches) (p .before) 0 a) (takeTo z a h p s)
 
 -- where there is room
 abbrev pub cuttingTo : Shape → List ℕ → ℕ → Cut → Outcome

@@ -115,15 +115,7 @@ fn write_path(a: &mut [u64], z: Shape, hash: u64, found: Cut, slot: u64, leaf: u
     ensures { λ r. ⌜ leaves (updated r) (now (a .exit)) ≡ prunedTo z hash found slot leaf (now (a .entry)) ⌝ }
 {
     let root = prunes::prune(&mut *a, z, hash, leaf, z.depths, found.root);
-    if root == 0 {
-        return Updated::Refused(Refusal::NoBranchCells);
-    }
-    slots::hold(&mut *a, z, slot, root, found.size);
-    Updated::Edition {
-        edition: slot,
-        branches: found.branches,
-        entries: found.before,
-    }
+    grants::hold_root(a, z, slot, root, found.size, found.branches, found.before)
 }
 
 // A chain is empty where nothing is left of it; where entries are to be copied, it is because no cell could be taken.
@@ -154,12 +146,7 @@ fn write(a: &mut [u64], z: Shape, hash: u64, found: Cut, slot: u64) -> Updated
     ensures { λ r. ⌜ leaves (updated r) (now (a .exit)) ≡ cutTo z (now (a .entry)) hash found slot ⌝ }
 {
     if found.empty {
-        slots::hold(&mut *a, z, slot, 0, found.size);
-        return Updated::Edition {
-            edition: slot,
-            branches: found.branches,
-            entries: found.before,
-        };
+        return grants::hold_edition(a, z, slot, 0, found.size, found.branches, found.before);
     }
     write_chain(a, z, hash, found, slot)
 }

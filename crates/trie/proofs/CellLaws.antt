@@ -1,19 +1,22 @@
 -- What an update takes. The names in the result are the old ones, less those that it gives up (the branches on the old path;
 -- the chain's entries up to the key), and new ones: b 0, b 1, .. and f 0, f 1, .., as many as document 01 counts. It is said
 -- for every weight on names, so it says of each name how often it stands there.
-use mathlib.Core.Path.{_≡_, refl, _∙_, ap}
+use mathlib.Core.Path.{_≡_, refl, sym, _∙_, ap}
 use mathlib.Core.List.{[], _∷_}
-use Prim.Native.Nat.{ℕ, suc, _+_, _≤_}
+use Prim.Native.Nat.{ℕ, zero, suc, _+_, _≤_, _<_}
 use native.Mathlib.Omega.{arith}
+use lib.ListN.{length}
 use Rattle.trie.specs.Canon.{Some, Canon, Canonical}
 use Rattle.trie.specs.Cells.{before, along, branchesOn, standBefore, insertTakes, leftTakes, removeTakes}
-use Rattle.trie.specs.Entry.{Entry}
+use Rattle.trie.specs.Entry.{Entry, absent, got, ifGot}
 use Rattle.trie.specs.Names.{cells, total, branchSum, entrySum, onMap, news, gone}
-use Rattle.trie.specs.Trie.{branch, leaf, single, chain, Node, none, kid, empty, root, Map, onFound, child, item, is-empty, removeNode, remove, Updated, not-there, updated, tidy, insert}
+use Rattle.trie.specs.Trie.{branch, leaf, single, chain, Node, none, kid, empty, root, Map, onFound, child, item, is-empty, removeNode, remove, Updated, not-there, updated, tidy, get, insert}
+use Rattle.trie.proofs.CopyLaws.{Parts, before-there}
 use Rattle.trie.proofs.InsertCases.{insert-case}
 use Rattle.trie.proofs.InsertNames.{insert-entries, insert-fresh, insert-branches}
 use Rattle.trie.proofs.KidsLaws.{child-hit}
 use Rattle.trie.proofs.MapLaws.{removal, Removal, taken-out}
+use Rattle.trie.proofs.PathLaws.{chainOf, get-chain, before-chain}
 use Rattle.trie.proofs.PathNames.{along-leaf, along-found, news-next, along-within, chain-within, along-most}
 use Rattle.trie.proofs.RemoveCases.{remove-case}
 use Rattle.trie.proofs.RemoveNames.{remove-entries, remove-branches, remove-fresh}
@@ -194,6 +197,56 @@ module _ (seg : ℕ → ℕ → ℕ) (d : ℕ) (W : Entry → Type 0) {X : Type 
           gone-inside h k m,
           news-ones w f new 0 (removeTakes seg (suc d) b f h k m .entries),
         )
+
+-- THE ENTRIES, by the chain at the end of the path
+module _ (seg : ℕ → ℕ → ℕ) (d : ℕ) {X : Type 0} (b f : ℕ → X) (m : Map X) where
+  stand-there : (h k v : ℕ) → get seg d h k m ≡ got v → (p : Parts h k (chainOf seg d h m))
+      → standBefore seg d h k m ≡ length (p .front)
+  stand-there h k v g p =
+      before-chain seg d h k m
+      ∙ before-there h k (chainOf seg d h m) v (sym (get-chain seg d h k m) ∙ g) p
+
+  pub insert-entries-there : (e : Entry) (v : ℕ) → get seg d (e .hash) (e .key) m ≡ got v
+      → (p : Parts (e .hash) (e .key) (chainOf seg d (e .hash) m)) → insertTakes seg d b f e m .entries ≡ suc (length (p .front))
+  unfolding insertTakes
+  insert-entries-there e v g p = omega (arith, stand-there (e .hash) (e .key) v g p)
+
+  pub insert-entries-new : (e : Entry) → get seg d (e .hash) (e .key) m ≡ absent → insertTakes seg d b f e m .entries ≡ 1
+  unfolding insertTakes before ifGot
+  insert-entries-new e g =
+      rw (before-chain seg d (e .hash) (e .key) m, sym (get-chain seg d (e .hash) (e .key) m) ∙ g)
+
+  module _ (h k : ℕ) (m' : Map X) (q : remove seg d b f h k m ≡ updated m') where
+    pub remove-entries-there : (v : ℕ) → get seg d h k m ≡ got v → (p : Parts h k (chainOf seg d h m))
+        → removeTakes seg d b f h k m .entries ≡ length (p .front)
+    unfolding leftTakes
+    remove-entries-there v g p = rw q (stand-there h k v g p)
+
+    pub remove-branches-left : removeTakes seg d b f h k m .branches ≡ branchesOn seg d h m'
+    unfolding leftTakes
+    remove-branches-left = rw q
+
+-- "AN EMPTY RESULT TAKES NONE"
+module _ (seg : ℕ → ℕ → ℕ) (W : Entry → Type 0) {X : Type 0} (b f : ℕ → X) (h k : ℕ) where
+  pub empty-takes-no-branch : (d : ℕ) (m : Map X) → remove seg d b f h k m ≡ updated empty
+      → removeTakes seg d b f h k m .branches ≡ 0
+  unfolding branchesOn
+  empty-takes-no-branch d m q = remove-branches-left seg d b f m h k empty q
+
+  pub empty-takes-no-entry : (d : ℕ) (m : Map X) → 0 < d → Canonical seg W d m → remove seg d b f h k m ≡ updated empty
+      → removeTakes seg d b f h k m .entries ≡ 0
+  unfolding onMap remove
+  empty-takes-no-entry zero m l c q = absurd (omega arith)
+  empty-takes-no-entry (suc d) empty l c q = let n : _≡_ {A = ℕ} 0 1 = cc in absurd (omega arith)
+  empty-takes-no-entry (suc d) (root n) l c q =
+      let w : X → ℕ = λ x. 1 in
+      omega (
+        arith,
+        remove-entry-names seg d W b f w h k (root n) empty q c,
+        gone-within w h k (chain seg (suc d) 0 h n),
+        chain-within seg w (suc d) 0 h n,
+        news-ones w f (λ j. refl) 0 (removeTakes seg (suc d) b f h k (root n) .entries),
+      )
 
 -- AT MOST ONE BRANCH CELL FOR EACH DEPTH
 module _ (seg : ℕ → ℕ → ℕ) (d : ℕ) {X : Type 0} (b f : ℕ → X) (m : Map X) where

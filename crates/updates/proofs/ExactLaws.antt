@@ -6,12 +6,12 @@ use mathlib.Core.List.{List}
 use Rattle.segments.specs.Segments.{segment}
 use Rattle.layout.specs.declared.Shape.{Shape}
 use Rattle.layout.specs.Header.{Header}
-use Rattle.trie.specs.Trie.{Map, get}
+use Rattle.trie.specs.Trie.{Map}
 use Rattle.trie.specs.Cells.{Taken, insertTakes}
 use Rattle.arena.specs.Sound.{Sound}
 use Rattle.arena.specs.Holds.{Holds}
 use Rattle.chains.specs.Chains.{anEntry}
-use Rattle.grafts.proofs.CaseLaws.{isThere}
+use Rattle.grafts.proofs.CaseLaws.{hasKey}
 use Rattle.replies.proofs.Tables.{Held, HeaderNumbered}
 use Rattle.grants.proofs.MeansLaws as grants
 use Rattle.updates.proofs.TestLaws.{NotThere, writeOf}
@@ -19,12 +19,9 @@ use Rattle.updates.proofs.RoomLaws.{plan-branches, plan-entries, plan-r
 use Rattle.updates.proofs.TableLaws.{WriteWhen, planned-lacks}
 use Rattle.updates.proofs.UpdateLaws.{writer}
 
--- what an insert of the key into the map takes, and whether the map has it
+-- what an insert of the key into the map takes
 abbrev pub needs : Shape → ℕ → ℕ → ℕ → Map ℕ → Taken
 needs z h k v m = insertTakes (segment (z .bits)) (z .depths) (λ t. t) (λ j. j) (anEntry h k v) m
-
-abbrev pub hasKey : Shape → ℕ → ℕ → Map ℕ → Bool
-hasKey z h k m = isThere (get (segment (z .bits)) (z .depths) h k m)
 
 -- m is the map that edition e holds, where it is held
 pub exactly-numbered : (a : List ℕ) → Sound a → (e h k v : ℕ) (change : Bool) (m : Map ℕ)

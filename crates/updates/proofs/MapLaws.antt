@@ -21,13 +21,11 @@ use Rattle.trie.proofs.KidsLaws.{child-hit}
 use Rattle.trie.proofs.PathNames.{along-leaf, along-found}
 use Rattle.arena.specs.Shows.{ShowsChain, ShowsMap}
 use Rattle.arena.specs.Local.{Local}
+use Rattle.arena.proofs.Shelved.{Good}
 use Rattle.cells.proofs.Made.{taking, Made}
 use Rattle.grafts.specs.Grafts.{graftFrom}
-use Rattle.grafts.proofs.CaseLaws.{isThere, leafOf, costOf, cost-along}
+use Rattle.grafts.proofs.CaseLaws.{hasKey, leafOf, costOf, cost-along}
 use Rattle.grafts.proofs.Meaning.{Names, graft-means, graft-empty-means}
-
-abbrev pub Good : Shape → Map ℕ → Type 0
-Good z m = Canonical (segment (z .bits)) Word64 (z .depths) m
 
 -- insert on a map of this shape, and the branches that it takes
 abbrev pub withEntry : Shape → (ℕ → ℕ) → (ℕ → ℕ) → Entry → Map ℕ → Map ℕ
@@ -71,7 +69,7 @@ empty-branches {z} l b f x = one-branch (segment (z .bits)) (z .depths) b f x (r
 module _ {z : Shape} {a : List ℕ} {free : ℕ → List ℕ} (l : Lent z a) (b f : ℕ → ℕ) (x : Entry) (leaf : ℕ) (there : Bool) where
   pub map-graft-means : (m : Map ℕ) (c : Good z m) (r n : ℕ) → Local z (columns z a) (λ q. ind q leaf) free
       → ShowsMap (columns z a) m r → ShowsChain (columns z a) (newLeaf z b f x m c) leaf
-      → there ≡ isThere (get (segment (z .bits)) (z .depths) (x .hash) (x .key) m)
+      → there ≡ hasKey z (x .hash) (x .key) m
       → n ≡ newBranches z b f x m → n ≤ length (free 0) → Names b 0 free n
       → Made z a free (taking 0 n) (graftFrom z (x .hash) leaf there (z .depths) 0 r a)
       × ShowsMap (columns z (graftFrom z (x .hash) leaf there (z .depths) 0 r a .words)) (withEntry z b f x m)

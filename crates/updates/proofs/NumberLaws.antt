@@ -1,7 +1,7 @@
 -- Which number insert and change give on any words: document 01's table for 4, 5, 6 and 7, where nothing is written. Else the
 -- number is 0, 8 or 9; the rows of these are exact where the free cells are as many as the counts say (TableLaws.antt).
 use Prim.Native.Nat.{ℕ, suc, _-_, _^_, _≤_, _<_}
-use mathlib.Core.Path.{_≡_, refl}
+use mathlib.Core.Path.{_≡_}
 use mathlib.Core.Bool.{Bool}
 use mathlib.Core.List.{List}
 use mathlib.Core.Logic.{⊎-elim}
@@ -18,17 +18,16 @@ use Rattle.replies.specs.Outcomes.{Outcome}
 use Rattle.replies.proofs.Tables.{Gives, HeaderNumbered, Unaltered, number, read}
 use Rattle.grants.specs.Rooms.{freeCells}
 use Rattle.grants.proofs.TestLaws.{Goes}
-use Rattle.grants.proofs.NumberLaws.{AnyWhen, Answers, few-branches-answers, few-entries-answers, done-answers, wrote-answers, update-answers, update-unaltered, update-few-branches, update-few-entries}
+use Rattle.grants.proofs.NumberLaws.{AnyWhen, Answers, few-entries-answers, wrote-answers, hold-answers, update-answers, update-unaltered, update-few-branches, update-few-entries}
 use Rattle.updates.specs.declared.Plan.{Plan}
-use Rattle.updates.specs.Calls.{planOf, rootTo, writeTo, writeIn}
+use Rattle.updates.specs.Calls.{planOf, writeTo, writeIn}
 use Rattle.updates.proofs.TestLaws.{NotThere, wanted-lacks, writeOf, writing}
 
 -- an update that goes on gives 8, 9 or 0, and a refusal's values are zeros
 to-answers : (z : Shape) (a : List ℕ) (h k v : ℕ) (p : Plan) (s : ℕ) → Answers (writeTo z a h k v p s)
-unfolding writeTo rootTo
+unfolding writeTo
 to-answers z a h k v p s =
-    wrote-answers _ Why.NoEntryCells _ (few-entries-answers _)
-    (wrote-answers _ Why.NoBranchCells _ (few-branches-answers _) (done-answers _ refl))
+    wrote-answers _ Why.NoEntryCells _ (few-entries-answers _) (hold-answers z s (p .size) _ _ _)
 
 -- where a word has no room for one more there are not that many cells either
 free-more : {z : Shape} {a : List ℕ} (n : ℕ) → Lent z a → freeCells z a 1 < suc n → freeCells z a 1 < oneMore n

@@ -11,15 +11,17 @@ use Rattle.layout.specs.declared.Shape.{Shape}
 use Rattle.layout.specs.Layout.{names, Lent}
 use Rattle.layout.specs.Columns.{State, columns}
 use Rattle.layout.proofs.SizeLaws.{row-is-right, small}
-use Rattle.trie.specs.Entry.{Entry, Word64, Got, absent, got, ifGot}
+use Rattle.trie.specs.Entry.{Entry, Word64, Got, absent, got}
 use Rattle.trie.specs.Trie.{Item, Node, Map, empty, root, item, chain, push-front, get, size, insert}
 use Rattle.trie.specs.Canon.{Canonical}
-use Rattle.trie.specs.Cells.{before, insertTakes}
-use Rattle.trie.proofs.CopyLaws.{copies, Parts, removed-there, before-there, parts-length}
+use Rattle.trie.specs.Cells.{insertTakes}
+use Rattle.trie.proofs.CellLaws.{insert-entries-there, insert-entries-new}
+use Rattle.trie.proofs.CopyLaws.{copies, Parts, removed-there, parts-length}
 use Rattle.trie.proofs.MapLaws.{size-insert-there, size-insert-new}
-use Rattle.trie.proofs.PathLaws.{chainOf, get-chain, before-chain}
+use Rattle.trie.proofs.PathLaws.{chainOf}
 use Rattle.arena.specs.Shows.{ShowsChain, ShowsMap}
 use Rattle.arena.proofs.Few.{chain-few, size-few, columns-live}
+use Rattle.arena.proofs.Shelved.{Good}
 use Rattle.lookup.specs.declared.Hit.the-variants.{At, Nowhere}
 use Rattle.lookup.specs.Lookup.{pathEnd, hitFrom, longest}
 use Rattle.lookup.proofs.Meaning.{live-named}
@@ -29,12 +31,12 @@ use Rattle.cells.proofs.TakeLaws.{more-some}
 use Rattle.chains.specs.Chains.{lengthAt, anEntry}
 use Rattle.chains.proofs.LengthLaws.{length-shown, length-before}
 use Rattle.grafts.specs.Grafts.{reaches, reachFrom}
-use Rattle.grafts.proofs.CaseLaws.{isThere, is-there, is-absent, restOf, leaf-there, leaf-new}
+use Rattle.grafts.proofs.CaseLaws.{hasKey, is-there, is-absent, restOf, leaf-there, leaf-new}
 use Rattle.grafts.proofs.SeenLaws.{words-celled}
 use Rattle.grafts.proofs.ReachLaws.{reach-means, reach-empty-means}
 use Rattle.updates.specs.declared.Plan.{Plan}
 use Rattle.updates.specs.Calls.{replacing, adding, planOf}
-use Rattle.updates.proofs.MapLaws.{Good, withEntry, newBranches, root-case, newLeaf, root-branches, empty-branches}
+use Rattle.updates.proofs.MapLaws.{withEntry, newBranches, root-case, newLeaf, root-branches, empty-branches}
 
 -- what the plan p says of the map m below the root r, for new cells of these names: `copied` are the entries that are copied,
 -- `behind` those that follow them in the old chain, and `shared` those that stand behind the copies in the new one
@@ -43,7 +45,7 @@ pub record Plans (z : Shape) (a : List ℕ) (b f : ℕ → ℕ) (x : Entry) (m :
   pub branches-is : p .branches ≡ newBranches z b f x m
   pub more-is : oneMore (p .before) ≡ suc (p .before)
   pub entries-is : suc (p .before) ≡ insertTakes (segment (z .bits)) (z .depths) b f x m .entries
-  pub replaced-is : p .replaced ≡ isThere (get (segment (z .bits)) (z .depths) (x .hash) (x .key) m)
+  pub replaced-is : p .replaced ≡ hasKey z (x .hash) (x .key) m
   pub size-is : p .size ≡ size (withEntry z b f x m)
   pub root-is : p .root ≡ r
   pub copied : List (Item ℕ)
@@ -87,22 +89,6 @@ module _ (seg : ℕ → ℕ → ℕ) (b f : ℕ → ℕ) (x : Entry) (m : Map �
       → size (insert seg d b f x m) ≡ suc (size m)
   size-new zero l c g = absurd (omega arith)
   size-new (suc d) l c g = size-insert-new seg d Word64 b f x m c g
-
-  module _ (d : ℕ) where
-    entries-there : (v : ℕ) → get seg d (x .hash) (x .key) m ≡ got v → (p : Parts (x .hash) (x .key) (chainOf seg d (x .hash) m))
-        → insertTakes seg d b f x m .entries ≡ suc (length (p .front))
-    unfolding insertTakes
-    entries-there v g p =
-        omega (
-          arith,
-          before-chain seg d (x .hash) (x .key) m,
-          before-there (x .hash) (x .key) (chainOf seg d (x .hash) m) v (sym (get-chain seg d (x .hash) (x .key) m) ∙ g) p,
-        )
-
-    entries-new : get seg d (x .hash) (x .key) m ≡ absent → insertTakes seg d b f x m .entries ≡ 1
-    unfolding insertTakes before ifGot
-    entries-new g =
-        rw (before-chain seg d (x .hash) (x .key) m, sym (get-chain seg d (x .hash) (x .key) m) ∙ g)
 
 module _ {z : Shape} {a : List ℕ} (l : Lent z a) (b f : ℕ → ℕ) (e h k v : ℕ) where
   abbrev ρ : State
@@ -168,13 +154,13 @@ module _ {z : Shape} {a : List ℕ} (l : Lent z a) (b f : ℕ → ℕ) (e h k v 
   plans-there n good w shown sized g =
       let (q, y, s) = map-hit-there z a (l .allowed) Word64 h k (root n) r good shown w g in
       let p : Parts h k (chainOf (segment (z .bits)) (z .depths) h (root n)) = s .parts in
-      let ahead : lengthAt z ρ front - lengthAt z ρ q ≡ length (p .front) = length-before z ρ named s ∙ sym (p .ahead-is) in
+      let ahead : lengthAt z ρ front - lengthAt z ρ q ≡ length (p .front) = length-before z ρ named s in
       rw (plan-there z a e h k q y)
       (record {
         branches-is = there-branches n good w shown g;
         more-is =
             one-more _ (omega (arith, ahead, parts-length h k _ p, chain-small _ _ (s .all-shown)));
-        entries-is = omega (arith, ahead, entries-there (segment (z .bits)) b f x (root n) (z .depths) w g p);
+        entries-is = omega (arith, ahead, insert-entries-there (segment (z .bits)) (z .depths) b f (root n) x w g p);
         replaced-is = sym (is-there w refl g);
         size-is = sized ∙ sym (size-there (segment (z .bits)) b f x (root n) (z .depths) w some-depths good g);
         root-is = refl;
@@ -202,7 +188,7 @@ module _ {z : Shape} {a : List ℕ} (l : Lent z a) (b f : ℕ → ℕ) (e h k v 
       (record {
         branches-is = branches;
         more-is = one-more 0 (omega arith);
-        entries-is = sym (entries-new (segment (z .bits)) b f x m (z .depths) g);
+        entries-is = sym (insert-entries-new (segment (z .bits)) (z .depths) b f m x g);
         replaced-is = sym (is-absent refl g);
         size-is =
             ap oneMore sized ∙ one-more (size m) (map-small m good shown)

@@ -12,25 +12,25 @@ use Rattle.layout.specs.Layout.{Lent}
 use Rattle.layout.specs.Header.{Header}
 use Rattle.layout.specs.Columns.{slotWord, columns}
 use Rattle.layout.proofs.HeaderLaws.{header-lent}
-use Rattle.trie.specs.Trie.{Map, get}
+use Rattle.trie.specs.Trie.{Map}
 use Rattle.trie.specs.Cells.{insertTakes}
 use Rattle.trie.proofs.CellLaws.{insert-most}
 use Rattle.arena.specs.Sound.{Sound}
 use Rattle.arena.specs.Local.{Local}
 use Rattle.arena.specs.Holds.{Holds}
-use Rattle.arena.proofs.Shelved.{held-shelves, shelf-canonical}
+use Rattle.arena.proofs.Shelved.{Good, held-shelves, shelf-canonical}
 use Rattle.cells.specs.Mirrors.{oneMore}
 use Rattle.chains.specs.Chains.{anEntry}
-use Rattle.grafts.proofs.CaseLaws.{isThere}
-use Rattle.grants.proofs.FreshLaws.{branchNames, entryNames, Written}
+use Rattle.grafts.proofs.CaseLaws.{hasKey}
+use Rattle.grants.proofs.FreshLaws.{branchNames, entryNames}
 use Rattle.grants.proofs.MeansLaws.{Does}
 use Rattle.updates.specs.declared.Plan.{Plan}
 use Rattle.updates.specs.Calls.{planOf}
 use Rattle.updates.specs.Contracts.{insertStep}
 use Rattle.updates.proofs.TestLaws.{writing}
-use Rattle.updates.proofs.MapLaws.{Good, withEntry}
+use Rattle.updates.proofs.MapLaws.{withEntry}
 use Rattle.updates.proofs.PlanLaws.{Plans, plan-means}
-use Rattle.updates.proofs.WriteLaws.{slotWrote, write-means}
+use Rattle.updates.proofs.WriteLaws.{write-means}
 
 module _ (a : List ℕ) (S : Sound a) (z : Shape) (head : Header a z) (e h k v : ℕ) (m : Map ℕ) (E : Holds z a e m) where
   lent : Lent z a
@@ -51,7 +51,7 @@ module _ (a : List ℕ) (S : Sound a) (z : Shape) (head : Header a z) (e h k v :
       → oneMore (planOf z a e h k .before) ≡ insertTakes (segment (z .bits)) (z .depths) b f (anEntry h k v) m .entries
   plan-entries b f = sound-plan b f .more-is ∙ sound-plan b f .entries-is
 
-  pub plan-replaced : planOf z a e h k .replaced ≡ isThere (get (segment (z .bits)) (z .depths) h k m)
+  pub plan-replaced : planOf z a e h k .replaced ≡ hasKey z h k m
   plan-replaced = sound-plan (λ t. 0) (λ u. 0) .replaced-is
 
   -- THE WRITING, where there are the cells and a slot is free
@@ -64,16 +64,14 @@ module _ (a : List ℕ) (S : Sound a) (z : Shape) (head : Header a z) (e h k v :
       let bn : ℕ → ℕ = branchNames free (p .branches) in
       let fn : ℕ → ℕ = entryNames free in
       let P = sound-plan bn fn in
-      let (done, W) = write-means lent local h k v p m good (columns z a .root e) (E .shows) P room-0
+      let (b, done, W) = write-means lent local h k v p m good (columns z a .root e) (E .shows) P room-0
       (omega (arith, P .more-is)) s ls away in
-      let T : Written z a free (p .branches) (oneMore (p .before)) s (withEntry z bn fn (anEntry h k v) m) (slotWrote z a h k v p s)
-      = rw (P .more-is) W in
       record {
-        after = slotWrote z a h k v p s;
+        after = b;
         result = withEntry z bn fn (anEntry h k v) m;
         done = done;
         makes = refl;
         counts = λ i. record { branches = sym (plan-branches bn fn) i; entries = sym (plan-entries bn fn) i };
         within-depths = rw (plan-branches bn fn) (insert-most (segment (z .bits)) (z .depths) bn fn m (anEntry h k v));
-        written = T;
+        written = W;
       }

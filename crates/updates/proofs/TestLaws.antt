@@ -12,11 +12,13 @@ use Rattle.grants.proofs.CaseLaws.{Update, updateOf}
 use Rattle.updates.specs.declared.Plan.{Plan}
 use Rattle.updates.specs.Calls.{planOf, writeTo, wanted}
 
--- insert where `change` is false, else change
-abbrev pub writing : List ℕ → ℕ → ℕ → ℕ → ℕ → Bool → Shape → Update
-writing a e h k v change z =
-    let p : Plan = planOf z a e h k in
+-- insert where `change` is false, else change: by a plan, and by the one of the reading pass
+abbrev pub writingBy : Shape → List ℕ → ℕ → ℕ → ℕ → Bool → Plan → Update
+writingBy z a h k v change p =
     record { wanted = wanted change p; branches = p .branches; entries = oneMore (p .before); does = writeTo z a h k v p }
+
+abbrev pub writing : List ℕ → ℕ → ℕ → ℕ → ℕ → Bool → Shape → Update
+writing a e h k v change z = writingBy z a h k v change (planOf z a e h k)
 
 abbrev pub writeOf : List ℕ → ℕ → ℕ → ℕ → ℕ → Bool → Outcome
 writeOf a e h k v change = updateOf a e (writing a e h k v change)

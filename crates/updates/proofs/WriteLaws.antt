@@ -7,30 +7,31 @@ use native.Mathlib.Omega.{arith}
 use lib.ListN.{length}
 use Rattle.layout.specs.declared.Shape.{Shape}
 use Rattle.layout.specs.Layout.{Lent}
-use Rattle.layout.specs.Columns.{columns, setSlotWords}
+use Rattle.layout.specs.Columns.{columns}
 use Rattle.trie.specs.Trie.{Map}
 use Rattle.arena.specs.Shows.{ShowsChain, ShowsMap}
-use Rattle.arena.specs.Local.{Local, SameSlots}
-use Rattle.arena.proofs.LocalLaws.{rehand}
-use Rattle.arena.proofs.Frames.{grow-trans, slots-trans, map-kept, slots-at, slot-trans}
-use Rattle.cells.specs.Frame.{Kept}
+use Rattle.arena.specs.Local.{Local}
+use Rattle.arena.proofs.Frames.{map-kept}
+use Rattle.arena.proofs.Shelved.{Good}
 use Rattle.cells.specs.Mirrors.{Wrote, oneMore}
-use Rattle.cells.proofs.KeptLaws.{kept-trans, kept-lent, slots-kept}
+use Rattle.cells.proofs.KeptLaws.{kept-lent}
 use Rattle.cells.proofs.Made.{left, taking, Made}
-use Rattle.cells.proofs.Meaning.{hold-means}
 use Rattle.chains.specs.Chains.{anEntry, pushFront}
 use Rattle.chains.proofs.Meaning.{push-means}
 use Rattle.grafts.specs.Grafts.{graftFrom}
 use Rattle.replies.specs.Answers.{doneTaking}
 use Rattle.replies.specs.Outcomes.{leaves}
 use Rattle.replies.proofs.AnswerLaws.{wrote-some}
-use Rattle.updates.specs.declared.Plan.{Plan}
+use Rattle.grants.specs.Rooms.{heldTo}
+use Rattle.grants.proofs.CaseLaws.{hold-some}
 use Rattle.grants.proofs.FreshLaws.{branchNames, entryNames, Written}
-use Rattle.updates.specs.Calls.{rootTo, writeTo}
-use Rattle.updates.proofs.MapLaws.{Good, withEntry, newLeaf, map-graft-means}
+use Rattle.grants.proofs.RootLaws.{Rooted, path-rooted, slot-means}
+use Rattle.updates.specs.declared.Plan.{Plan}
+use Rattle.updates.specs.Calls.{writeTo}
+use Rattle.updates.proofs.MapLaws.{withEntry, newLeaf, map-graft-means}
 use Rattle.updates.proofs.PlanLaws.{Plans}
 
--- THE WORDS: after the leaf, after the path above it, and after the slot
+-- THE WORDS: after the leaf, and after the path above it
 module _ (z : Shape) (a : List ℕ) (h k v : ℕ) (p : Plan) where
   unfoldable pub leafWrote : Wrote
   leafWrote = pushFront z a (p .length) (anEntry h k v) (p .before) (p .front) (p .rest)
@@ -38,14 +39,12 @@ module _ (z : Shape) (a : List ℕ) (h k v : ℕ) (p : Plan) where
   unfoldable pub rootWrote : Wrote
   rootWrote = graftFrom z h (leafWrote .at) (p .replaced) (z .depths) 0 (p .root) (leafWrote .words)
 
-  unfoldable pub slotWrote : ℕ → List ℕ
-  slotWrote s = setSlotWords z (rootWrote .words) s 1 (rootWrote .at) (p .size)
-
 write-to-is : (z : Shape) (a : List ℕ) (h k v : ℕ) (p : Plan) (s : ℕ) → (leafWrote z a h k v p .at ≡ 0 → ⊥)
     → (rootWrote z a h k v p .at ≡ 0 → ⊥)
-    → writeTo z a h k v p s ≡ leaves (doneTaking s (p .branches) (oneMore (p .before))) (slotWrote z a h k v p s)
-unfolding writeTo rootTo leafWrote rootWrote slotWrote
-write-to-is z a h k v p s some above = wrote-some _ _ _ some ∙ wrote-some _ _ _ above
+    → writeTo z a h k v p s
+    ≡ heldTo z s (p .size) (p .branches) (oneMore (p .before)) (rootWrote z a h k v p .at) (rootWrote z a h k v p .words)
+unfolding writeTo leafWrote rootWrote
+write-to-is z a h k v p s some above = wrote-some _ _ _ some ∙ hold-some z s (p .size) _ _ _ above
 
 -- WHAT IT COMES TO
 module _ {z : Shape} {a : List ℕ} {free : ℕ → List ℕ} (l : Lent z a) (I : Local z (columns z a) (λ r. 0) free) (h k v : ℕ)
@@ -79,32 +78,17 @@ module _ {z : Shape} {a : List ℕ} {free : ℕ → List ℕ} (l : Lent z a) (I 
       (L .1) (P .replaced-is) (P .branches-is) room-0
       (λ u lu. ap (branchNames free (p .branches)) (omega arith))
 
+  rooted : Rooted z a free (p .branches) (oneMore (p .before)) made (rootWrote z a h k v p)
+  rooted =
+      let L = leaf-made .0 in
+      rw (P .more-is) (path-rooted (L .kept) (L .grow) (L .slots) (root-made .0) (root-made .1))
+
   pub write-means : (s : ℕ) → s < z .slots → (columns z a .held s ≡ 1 → ⊥)
-      → (writeTo z a h k v p s ≡ leaves (doneTaking s (p .branches) (oneMore (p .before))) (slotWrote z a h k v p s))
-      × Written z a free (p .branches) (suc (p .before)) s (withEntry z (branchNames free (p .branches)) (entryNames free) (anEntry h k v) m)
-      (slotWrote z a h k v p s)
-  unfolding slotWrote
-  write-means s ls away =
-      let L = leaf-made in
-      let R = root-made in
-      let w = rootWrote z a h k v p in
-      let kept : Kept z a (w .words) = kept-trans (L .0 .kept) (R .0 .kept) in
-      let slots : SameSlots (columns z a) (columns z (w .words)) = slots-trans (L .0 .slots) (R .0 .slots) in
-      let lent : Lent z (w .words) = kept-lent kept l in
-      let T = hold-means (λ q. 0) s (w .at) (p .size) lent ls (λ y. away (sym (slots-at slots s .held-eq) ∙ y))
-      (rehand _ (λ q nz. omega arith) (R .0 .local)) in (
-        write-to-is z a h k v p s (L .0 .some) (R .0 .some),
-        record {
-          kept = kept-trans kept (slots-kept z (w .words) s 1 (w .at) (p .size) (lent .allowed .wide) ls);
-          local = T .local;
-          grow = grow-trans (grow-trans (L .0 .grow) (R .0 .grow)) (T .grow);
-          others = λ j ne. slot-trans (slots-at slots j) (T .others j ne);
-          edition =
-              record {
-                slot = ls;
-                held = T .held-is;
-                shows = rw (T .root-is) (map-kept (T .grow) made (w .at) (R .1));
-                sized = T .size-is ∙ P .size-is;
-              };
-        },
-      )
+      → (b : List ℕ) × (writeTo z a h k v p s ≡ leaves (doneTaking s (p .branches) (oneMore (p .before))) b)
+      × Written z a free (p .branches) (oneMore (p .before)) s
+      (withEntry z (branchNames free (p .branches)) (entryNames free) (anEntry h k v) m) b
+  write-means s ls away = (
+    _,
+    write-to-is z a h k v p s (leaf-made .0 .some) (root-made .0 .some),
+    slot-means s (p .size) rooted l (P .size-is) ls away,
+  )

@@ -5,7 +5,7 @@ use mathlib.Core.Bool.{Bool, true, false, cond}
 use mathlib.Core.List.{List}
 use Rattle.layout.specs.declared.Shape.{Shape}
 use Rattle.layout.specs.Header.{headerOf}
-use Rattle.layout.specs.Columns.{State, columns, setSlotWords}
+use Rattle.layout.specs.Columns.{State, columns}
 use Rattle.lookup.specs.declared.Hit.{Hit}
 use Rattle.lookup.specs.declared.Hit.the-variants as H
 use Rattle.lookup.specs.Lookup.{pathEnd, hitFrom, longest}
@@ -13,9 +13,9 @@ use Rattle.cells.specs.Mirrors.{oneMore}
 use Rattle.chains.specs.Chains.{lengthAt, anEntry, pushFront}
 use Rattle.grafts.specs.Grafts.{reachFrom, graftFrom}
 use Rattle.replies.specs.declared.Refusal.the-variants as Why
-use Rattle.replies.specs.Answers.{refused, doneTaking}
+use Rattle.replies.specs.Answers.{refused}
 use Rattle.replies.specs.Outcomes.{Outcome, leaves, onHeader, onWrote}
-use Rattle.grants.specs.Rooms.{roomOf, onRoom, updateIn}
+use Rattle.grants.specs.Rooms.{roomOf, onRoom, updateIn, holdTo}
 use Rattle.updates.specs.declared.Plan.{Plan}
 
 -- THE READING PASS. The key stands at q, in the chain from `front` on: the entries before it are copied, those behind it shared.
@@ -59,10 +59,9 @@ planOf z a e h k =
     let σ = columns z a in planAt z σ (σ .root e) (σ .size e) h k (pathEnd z σ h (z .depths) 0 (σ .root e))
 
 -- WRITING. The leaf with the new entry, then the path above it, then the slot.
-unfoldable pub rootTo : Shape → ℕ → Plan → ℕ → ℕ → List ℕ → Outcome
+abbrev pub rootTo : Shape → ℕ → Plan → ℕ → ℕ → List ℕ → Outcome
 rootTo z h p s leaf w =
-    onWrote (graftFrom z h leaf (p .replaced) (z .depths) 0 (p .root) w) Why.NoBranchCells
-    (λ r v. leaves (doneTaking s (p .branches) (oneMore (p .before))) (setSlotWords z v s 1 r (p .size)))
+    holdTo z s (p .size) (p .branches) (oneMore (p .before)) (graftFrom z h leaf (p .replaced) (z .depths) 0 (p .root) w)
 
 unfoldable pub writeTo : Shape → List ℕ → ℕ → ℕ → ℕ → Plan → ℕ → Outcome
 writeTo z a h k v p s =

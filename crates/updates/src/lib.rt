@@ -113,15 +113,8 @@ fn write(a: &mut [u64], z: Shape, hash: u64, key: u64, value: u64, plan: Plan, s
         return Updated::Refused(Refusal::NoEntryCells);
     }
     let root = grafts::graft(&mut *a, z, hash, leaf, plan.replaced, z.depths, plan.root);
-    if root == 0 {
-        return Updated::Refused(Refusal::NoBranchCells);
-    }
-    slots::hold(&mut *a, z, slot, root, plan.size);
-    Updated::Edition {
-        edition: slot,
-        branches: plan.branches,
-        entries: shares::more(plan.before),
-    }
+    let entries = shares::more(plan.before);
+    grants::hold_root(a, z, slot, root, plan.size, plan.branches, entries)
 }
 
 // A plan carried out, if there are a slot and the cells for it.

@@ -1,7 +1,7 @@
 -- `removes::survey` meets its contract. Assumes nothing.
-use Rattle.removes.proofs.StepLaws.{survey-is}
+use Rattle.lookup.proofs.FindLaws.{survey-is}
+use Rattle.removes.specs.Calls.{cutBy, cutOf}
 use mathlib.Core.Path.{sym, _∙_}
-use native.Mathlib.Omega.{arith}
 use borrow.Author.Needs.{needs}
 use Rattle.removes.proofs.survey.Statement.{statement}
 use Rattle.removes.proofs.survey.Tie as tie
@@ -31,10 +31,12 @@ nothing-requires : tie.Need-nothing-requires
 nothing-requires c κs = search needs
 
 returns : tie.Need-returns
-returns c = survey-is _ _ _ _ _ _ _ _ _ _ (c .before .before .before .before .before .before .before .slot-word .ensures) (c .before .before .before .before .before .before .slot-word2 .ensures) (c .before .before .before .before .before .descend .ensures) (sym (c .before .before .before .before .find .ensures) ∙ c .before .before .hit .given .1) (c .plan-cut .ensures)
+unfolding cutOf
+returns c = survey-is cutBy _ _ _ _ _ _ _ _ _ _ (c .before .before .before .before .before .before .before .slot-word .ensures) (c .before .before .before .before .before .before .slot-word2 .ensures) (c .before .before .before .before .before .descend .ensures) (sym (c .before .before .before .before .find .ensures) ∙ c .before .before .hit .given .1) (c .plan-cut .ensures)
 
 returns-2 : tie.Need-returns-2
-returns-2 c = survey-is _ _ _ _ _ _ _ _ _ _ (c .before .before .before .before .before .before .slot-word .ensures) (c .before .before .before .before .before .slot-word2 .ensures) (c .before .before .before .before .descend .ensures) (sym (c .before .before .before .find .ensures) ∙ c .before .enum-told .given .1) (c .nothing .ensures)
+unfolding cutOf
+returns-2 c = survey-is cutBy _ _ _ _ _ _ _ _ _ _ (c .before .before .before .before .before .before .slot-word .ensures) (c .before .before .before .before .before .slot-word2 .ensures) (c .before .before .before .before .descend .ensures) (sym (c .before .before .before .find .ensures) ∙ c .before .enum-told .given .1) (c .nothing .ensures)
 
 pub survey-spec : {M : Type 1} → statement M
 survey-spec =

@@ -1,6 +1,7 @@
 -- `updates::survey` meets its contract. Assumes nothing.
 use mathlib.Core.Path.{sym, _∙_}
-use Rattle.updates.proofs.StepLaws.{survey-is}
+use Rattle.lookup.proofs.FindLaws.{survey-is}
+use Rattle.updates.specs.Calls.{planBy, planOf}
 use borrow.Author.Needs.{needs}
 use Rattle.updates.proofs.survey.Statement.{statement}
 use Rattle.updates.proofs.survey.Tie as tie
@@ -30,10 +31,12 @@ add-requires : tie.Need-add-requires
 add-requires c κs = search needs
 
 returns : tie.Need-returns
-returns c = survey-is _ _ _ _ _ _ _ _ _ _ (c .before .before .before .before .before .before .before .slot-word .ensures) (c .before .before .before .before .before .before .slot-word2 .ensures) (c .before .before .before .before .before .descend .ensures) (sym (c .before .before .before .before .find .ensures) ∙ c .before .before .hit .given .1) (c .replace .ensures)
+unfolding planOf
+returns c = survey-is planBy _ _ _ _ _ _ _ _ _ _ (c .before .before .before .before .before .before .before .slot-word .ensures) (c .before .before .before .before .before .before .slot-word2 .ensures) (c .before .before .before .before .before .descend .ensures) (sym (c .before .before .before .before .find .ensures) ∙ c .before .before .hit .given .1) (c .replace .ensures)
 
 returns-2 : tie.Need-returns-2
-returns-2 c = survey-is _ _ _ _ _ _ _ _ _ _ (c .before .before .before .before .before .before .slot-word .ensures) (c .before .before .before .before .before .slot-word2 .ensures) (c .before .before .before .before .descend .ensures) (sym (c .before .before .before .find .ensures) ∙ c .before .enum-told .given .1) (c .add .ensures)
+unfolding planOf
+returns-2 c = survey-is planBy _ _ _ _ _ _ _ _ _ _ (c .before .before .before .before .before .before .slot-word .ensures) (c .before .before .before .before .before .slot-word2 .ensures) (c .before .before .before .before .descend .ensures) (sym (c .before .before .before .find .ensures) ∙ c .before .enum-told .given .1) (c .add .ensures)
 
 pub survey-spec : {M : Type 1} → statement M
 survey-spec =

@@ -1,7 +1,8 @@
 -- `updates::write_held` meets its contract. Assumes nothing.
 use mathlib.Core.Path.{refl, sym, _∙_}
 use Rattle.cells.proofs.SlotLaws.{held-says}
-use Rattle.updates.proofs.StepLaws.{held-wanted, held-absent}
+use Rattle.grants.proofs.CaseLaws.{read-goes, read-absent}
+use Rattle.updates.proofs.TestLaws.{writingBy}
 use borrow.Author.Needs.{needs}
 use Rattle.updates.proofs.write_held.Statement.{statement}
 use Rattle.updates.proofs.write_held.Tie as tie
@@ -19,13 +20,13 @@ same-length : tie.Need-same-length
 same-length c = search needs
 
 returns : tie.Need-returns
-returns c = held-wanted _ _ _ _ _ _ _ _ _ (c .before .before .before .before .before .before .survey .ensures) (c .before .before .before .before .before .before .before .before .before .pre .1) (sym (c .before .before .before .before .before .wants .ensures) ∙ c .before .before .before .before .if1 .taken) (c .before .before .write-planned .ensures)
+returns c = read-goes _ _ _ (writingBy _ _ _ _ _ _) _ _ (c .before .before .before .before .before .before .survey .ensures) (c .before .before .before .before .before .before .before .before .before .pre .1) _ (sym (c .before .before .before .before .before .wants .ensures) ∙ c .before .before .before .before .if1 .taken) (c .before .before .write-planned .ensures)
 
 same-length-2 : tie.Need-same-length-2
 same-length-2 c = search needs
 
 returns-2 : tie.Need-returns-2
-returns-2 c = held-absent _ _ _ _ _ _ _ _ _ (c .before .before .survey .ensures) (c .before .before .before .before .before .pre .1) (sym (c .before .wants .ensures) ∙ c .if1 .left) refl
+returns-2 c = read-absent _ _ _ (writingBy _ _ _ _ _ _) _ _ (c .before .before .survey .ensures) (c .before .before .before .before .before .pre .1) _ (sym (c .before .wants .ensures) ∙ c .if1 .left) refl
 
 pub write-held-spec : {M : Type 1} → statement M
 write-held-spec =
