@@ -1,8 +1,8 @@
 //! Format at work on small arenas, for a person to read: which degrees and sizes it accepts, which fault it names first, and
 //! what words it writes. It stands on `shelf` and prints what the calls answer, as document 01's numbers; the file stdout
 //! beside it is what it has to print.
-mod chains;
 mod degrees;
+mod free_chains;
 mod marked;
 mod sizes;
 mod smallest;
@@ -11,5 +11,5 @@ fn main() {
     degrees::show();
     sizes::show();
     smallest::show();
-    chains::show();
+    free_chains::show();
 }

@@ -1,22 +1,17 @@
 //! The answers on editions at one degree: that each line is what its letter asks for, that the crate lists in the order of
-//! our segments, and that each call, made on the shelf, answers the same and lists the same entries. Remove and drop are
-//! not on the shelf yet: from the first of them on, the calls of a run are not made.
-use crate::calls;
+//! our segments, and that each call, made on the shelf, answers the same and lists the same entries.
 use crate::score::count;
 use segments::Index;
 
 // What was read so far. `listing` is how many entries of a listing the next lines have still to show, `last` the hash of
-// the one before them, where there is one, and `place` where the next stands in what the shelf has listed. `passing` says
-// that the rest of the run is passed over.
+// the one before them, where there is one, and `place` where the next stands in what the shelf has listed.
 pub struct Tally {
     degree: u64,
     pub entries: u64,
-    pub performed: u64,
     listing: u64,
     is_first: bool,
     last: u64,
     place: usize,
-    passing: bool,
 }
 
 // The tally after a line, and whether the line is right.
@@ -73,12 +68,10 @@ impl Tally {
         Tally {
             degree: degree,
             entries: 0,
-            performed: 0,
             listing: 0,
             is_first: true,
             last: 0,
             place: 0,
-            passing: true,
         }
     }
 
@@ -128,7 +121,7 @@ impl Tally {
         let place = self.place;
         let hash = numbers[0];
         let ordered = self.is_first || in_order(self.last, hash, self.degree);
-        let listed = self.passing || calls::is_entry(out, place, numbers);
+        let listed = stored_calls::is_entry(out, place, numbers);
         self.entries = count(self.entries);
         self.is_first = false;
         self.last = hash;
@@ -149,23 +142,7 @@ impl Tally {
         }
     }
 
-    // A run begins with a format, and is passed over from the first call on that the shelf has not.
-    fn turned(mut self, letter: u8) -> Self {
-        match letter {
-            b'f' => self.passing = false,
-            b'r' | b'd' => self.passing = true,
-            _ => {}
-        }
-        self
-    }
-
-    fn perform(mut self, a: &mut [u64], out: &mut [u64], letter: u8, numbers: [u64; 8]) -> Seen {
-        self.performed = count(self.performed);
-        let reply = calls::make(a, out, letter, numbers);
-        self.seen(calls::is_answer(reply, numbers, arguments(letter)))
-    }
-
-    // A call: its form, and its answer where it can be made.
+    // A call: its form, and its answer.
     fn called(
         self,
         a: &mut [u64],
@@ -175,13 +152,10 @@ impl Tally {
         length: usize,
     ) -> Seen {
         let formed = self.formed(letter, numbers, length);
-        let tally = formed.tally.turned(letter);
-        if tally.passing {
-            return tally.seen(formed.right);
-        }
-        let performed = tally.perform(a, out, letter, numbers);
-        let next = performed.tally;
-        next.seen(formed.right && performed.right)
+        let reply = stored_calls::make(a, out, letter, numbers);
+        let answered = stored_calls::is_answer(reply, numbers, arguments(letter));
+        let tally = formed.tally;
+        tally.seen(formed.right && answered)
     }
 
     // A line of so many numbers, on an arena and an output for the listings.

@@ -101,21 +101,10 @@ impl Tally {
         self.seen(true)
     }
 
-    // A line that reads or writes the array, once every word that the last call left has been shown.
-    fn on_array(self, words: &mut [u64], letter: u8, numbers: [u64; 8]) -> Seen {
+    // A call that reads the array.
+    fn reads(self, words: &[u64], letter: u8, numbers: [u64; 8]) -> Seen {
         let bitmap = self.bitmap;
-        if self.place != sparse_array::size(bitmap) {
-            return self.seen(false);
-        }
         match letter {
-            b'p' => {
-                let changed = sparse_array::set(bitmap, words, numbers[0], numbers[1]);
-                self.changed(changed, numbers[2], numbers[3])
-            }
-            b'k' => {
-                let changed = sparse_array::remove(bitmap, words, numbers[0]);
-                self.changed(changed, numbers[1], numbers[2])
-            }
             b'o' => self.read(
                 of_found(sparse_array::get(bitmap, words, numbers[0])),
                 numbers[1],
@@ -131,8 +120,27 @@ impl Tally {
                 numbers[0],
                 numbers[1],
             ),
-            b'a' => self.begun(),
             _ => self.seen(false),
+        }
+    }
+
+    // A line that reads or writes the array, once every word that the last call left has been shown.
+    fn on_array(self, words: &mut [u64], letter: u8, numbers: [u64; 8]) -> Seen {
+        let bitmap = self.bitmap;
+        if self.place != sparse_array::size(bitmap) {
+            return self.seen(false);
+        }
+        match letter {
+            b'p' => {
+                let changed = sparse_array::set(bitmap, words, numbers[0], numbers[1]);
+                self.changed(changed, numbers[2], numbers[3])
+            }
+            b'k' => {
+                let changed = sparse_array::remove(bitmap, words, numbers[0]);
+                self.changed(changed, numbers[1], numbers[2])
+            }
+            b'a' => self.begun(),
+            _ => self.reads(words, letter, numbers),
         }
     }
 

@@ -9,6 +9,11 @@ pub struct Score {
     total: u64,
 }
 
+// A sum, as far as numbers go.
+fn sum(n: u64, m: u64) -> u64 {
+    if n <= u64::MAX - m { n + m } else { u64::MAX }
+}
+
 // One more, as far as numbers go.
 pub fn count(n: u64) -> u64 {
     if n < u64::MAX { n + 1 } else { n }
@@ -52,6 +57,16 @@ impl Score {
         }
     }
 
+    // This file and another. The sum says no number of calls that it should have.
+    pub fn and(self, other: Score) -> Self {
+        Score {
+            lines: sum(self.lines, other.lines),
+            calls: sum(self.calls, other.calls),
+            wrong: sum(self.wrong, other.wrong),
+            total: u64::MAX,
+        }
+    }
+
     pub fn show(self) {
         print::decimal(b", calls ", self.calls);
         print::decimal(b", lines ", self.lines);
@@ -60,5 +75,12 @@ impl Score {
             print::say(b", not whole");
         }
         print::say(b"\n");
+    }
+
+    // All files on editions.
+    pub fn show_all(self) {
+        print::decimal(b"replayed on the shelf: ", self.calls);
+        print::decimal(b" calls, ", self.wrong);
+        print::say(b" wrong\n");
     }
 }

@@ -1,37 +1,19 @@
 //! K2 to K6, each in an arena that has exactly the cells for the steps up to it, and in arenas with one too few of a kind or
 //! of both. What is refused changes no word.
-use shelf::Updated;
 use shown::answer;
-use shown::entries;
 use shown::lent;
+use shown::steps;
 ghost use Prim.Native.Nat.{_≤_};
-
-// Step n of the table, on the edition that step n - 1 made.
-fn step(a: &mut [u64], n: u64) -> Updated {
-    let e = entries::of_step(n);
-    let edition = if 0 < n { n - 1 } else { 0 };
-    shelf::insert(a, edition, e.hash, e.key, e.value)
-}
-
-// The steps before step n.
-fn before(a: &mut [u64], n: u64) {
-    shelf::new_edition(a);
-    let mut k = 1;
-    while k < n {
-        step(a, k);
-        k += 1;
-    }
-}
 
 // Step n in an arena of so many cells. The largest has 37 branch cells, 7 entry cells and 8 slots.
 fn within(label: &[u8], n: u64, branches: u64, entries: u64) {
     let mut a = [0u64; 781];
     shelf::format(&mut a, 16, branches, entries, 8);
-    before(&mut a, n);
+    steps::before(&mut a, n);
     let mut copy = [0u64; 781];
     lent::copy(&a, &mut copy);
     print::say(label);
-    answer::say_updated(step(&mut a, n));
+    answer::say_updated(steps::step(&mut a, n));
     answer::say_use(b"; in use", &a);
     lent::say_kept(&a, &copy);
 }

@@ -1,6 +1,7 @@
 //! What insert and change refuse, in the order of the tests: 4 before 5, 5 before 6, 6 before 7, and 7 before a lack of cells.
 //! None of these changes a word.
 use shown::answer;
+use shown::damaged;
 use shown::lent;
 
 // Insert and change of a key, by their numbers.
@@ -9,54 +10,6 @@ fn both(a: &mut [u64], label: &[u8], edition: u64, hash: u64, key: u64) {
     let changed = answer::of_updated(shelf::change(a, edition, hash, key, 1));
     print::decimal(label, inserted);
     print::decimal(b", change ", changed);
-}
-
-// Insert and change on a damaged arena. They have another fault too, no such edition, but 4 comes first.
-fn damaged(a: &mut [u64], fours: u64) -> u64 {
-    let inserted = answer::of_updated(shelf::insert(a, 7, 0x26, 1, 10));
-    let changed = answer::of_updated(shelf::change(a, 7, 0x26, 1, 10));
-    answer::count_4(answer::count_4(fours, inserted), changed)
-}
-
-// The two calls with another word at a place, which is put back.
-fn with(a: &mut [u64], at: usize, word: u64, fours: u64) -> u64 {
-    let before = lent::word(a, at);
-    lent::put(a, at, word);
-    let n = damaged(a, fours);
-    lent::put(a, at, before);
-    n
-}
-
-// Words 0 to 7, each with a number that it never has.
-fn wrong_words(a: &mut [u64]) -> u64 {
-    let mut fours = 0;
-    let mut i = 0;
-    while i < 8 {
-        fours = with(a, i, 77, fours);
-        i += 1;
-    }
-    fours
-}
-
-// The two calls on the first n words.
-fn cut_to(a: &mut [u64], n: usize, fours: u64) -> u64 {
-    if a.len() < n {
-        return fours;
-    }
-    damaged(&mut a[..n], fours)
-}
-
-// No word, one word less than a header, and one less than the arena.
-fn cut(a: &mut [u64]) -> u64 {
-    let none = cut_to(a, 0, 0);
-    let header = cut_to(a, 11, none);
-    cut_to(a, 45, header)
-}
-
-fn say_damaged(a: &mut [u64]) {
-    print::decimal(b"  words 0 to 7 wrong: 4 from ", wrong_words(a));
-    print::decimal(b" of 16 calls; cut short: 4 from ", cut(a));
-    print::say(b" of 6 calls");
 }
 
 // A slot that is free, and ones that are not there.
@@ -83,7 +36,7 @@ fn small(a: &mut [u64]) {
 fn before_full(a: &mut [u64]) {
     let mut copy = [0u64; 46];
     lent::copy(a, &mut copy);
-    say_damaged(a);
+    damaged::say(a);
     lent::say_kept(a, &copy);
     no_such_edition(a);
     lent::say_kept(a, &copy);

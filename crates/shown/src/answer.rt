@@ -1,5 +1,7 @@
 //! An answer as document 01's number, 0 where the call is done; or as text, its values or "no." with the number.
+use shelf::Compared;
 use shelf::Counted;
+use shelf::Dropped;
 use shelf::Formatted;
 use shelf::InUse;
 use shelf::Made;
@@ -27,6 +29,16 @@ pub fn of_updated(answer: Updated) -> u64 {
             entries: _,
         } => 0,
         Updated::Refused(why) => why.number(),
+    }
+}
+
+pub fn of_dropped(answer: Dropped) -> u64 {
+    match answer {
+        Dropped::Freed {
+            branches: _,
+            entries: _,
+        } => 0,
+        Dropped::Refused(why) => why.number(),
     }
 }
 
@@ -106,5 +118,29 @@ pub fn say_updated(answer: Updated) {
             print::decimal(b" ", entries);
         }
         Updated::Refused(why) => print::decimal(b": no. ", why.number()),
+    }
+}
+
+// The cells that a drop freed.
+pub fn say_dropped(answer: Dropped) {
+    match answer {
+        Dropped::Freed { branches, entries } => {
+            print::decimal(b" frees ", branches);
+            print::decimal(b" ", entries);
+        }
+        Dropped::Refused(why) => print::decimal(b" no. ", why.number()),
+    }
+}
+
+// Whether two editions have the same entries.
+pub fn say_compared(a: &[u64], label: &[u8], first: u64, second: u64) {
+    print::say(label);
+    match shelf::equal(a, first, second) {
+        Compared::Equal => print::say(b" equal\n"),
+        Compared::Different => print::say(b" different\n"),
+        Compared::Refused(why) => {
+            print::decimal(b" no. ", why.number());
+            print::say(b"\n");
+        }
     }
 }

@@ -1,5 +1,8 @@
 //! The entries of the shelf table, A to E.
 
+// The hash of D and E.
+pub const CHAIN: u64 = 0x7000000000000008;
+
 pub struct Entry {
     pub hash: u64,
     pub key: u64,
@@ -20,8 +23,8 @@ pub fn of_step(n: u64) -> Entry {
         1 => an_entry(0x26, 1, 10),
         2 => an_entry(0x16, 2, 20),
         3 => an_entry(0x42, 3, 30),
-        4 => an_entry(0x7000000000000008, 4, 40),
-        5 => an_entry(0x7000000000000008, 5, 50),
-        _ => an_entry(0x7000000000000008, 4, 41),
+        4 => an_entry(CHAIN, 4, 40),
+        5 => an_entry(CHAIN, 5, 50),
+        _ => an_entry(CHAIN, 4, 41),
     }
 }

@@ -43,7 +43,7 @@ pub fn copy(words: &[u64], room: &mut [u64]) {
 }
 
 // Whether the copy begins with these words.
-fn is_same(words: &[u64], before: &[u64]) -> bool {
+pub fn is_same(words: &[u64], before: &[u64]) -> bool {
     if before.len() < words.len() {
         return false;
     }

@@ -1,4 +1,4 @@
-//! An edition listed whole, on a line.
+//! Editions listed whole, one to a line.
 use crate::answer;
 use crate::lent;
 
@@ -26,4 +26,20 @@ pub fn whole(a: &[u64], edition: u64) {
         say_entries(&out[..3 * n as usize]);
     }
     print::say(b"\n");
+}
+
+// The same, with the edition's number in front.
+fn numbered(a: &[u64], edition: u64) {
+    print::decimal(b"    ", edition);
+    print::say(b": entries");
+    whole(a, edition);
+}
+
+// The first so many editions.
+pub fn first(a: &[u64], editions: u64) {
+    let mut edition = 0;
+    while edition < editions {
+        numbered(a, edition);
+        edition += 1;
+    }
 }

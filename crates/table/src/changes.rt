@@ -1,11 +1,10 @@
 //! Changes in the arena of the table, each on K5, which is edition 5; and entries written again with the values that they
 //! have. Editions 0 to 8 stay as they were.
-use crate::listed;
 use crate::steps;
-use shelf::Compared;
 use shown::answer;
 use shown::entries;
 use shown::entries::Entry;
+use shown::listed;
 
 fn change(a: &mut [u64], label: &[u8], e: Entry) {
     print::say(label);
@@ -35,24 +34,12 @@ fn present(a: &mut [u64]) {
     steps::insert(a, b"  A with 10 again, inserted", 5, entries::of_step(1), 0);
 }
 
-fn compare(a: &[u64], label: &[u8], first: u64, second: u64) {
-    print::say(label);
-    match shelf::equal(a, first, second) {
-        Compared::Equal => print::say(b" equal\n"),
-        Compared::Different => print::say(b" different\n"),
-        Compared::Refused(why) => {
-            print::decimal(b" no. ", why.number());
-            print::say(b"\n");
-        }
-    }
-}
-
 fn compare_all(a: &[u64]) {
-    compare(a, b"  K6 and D to 41:", 6, 9);
-    compare(a, b"  K5 and D to 41:", 5, 9);
-    compare(a, b"  K5 and E to 50 again:", 5, 10);
-    compare(a, b"  K5 and C to 33:", 5, 11);
-    compare(a, b"  K5 and A with 10 again:", 5, 12);
+    answer::say_compared(a, b"  K6 and D to 41:", 6, 9);
+    answer::say_compared(a, b"  K5 and D to 41:", 5, 9);
+    answer::say_compared(a, b"  K5 and E to 50 again:", 5, 10);
+    answer::say_compared(a, b"  K5 and C to 33:", 5, 11);
+    answer::say_compared(a, b"  K5 and A with 10 again:", 5, 12);
 }
 
 pub fn show(a: &mut [u64]) {
