@@ -3,12 +3,15 @@
 use Prim.Native.Nat.{ℕ, zero, suc, _<_}
 use mathlib.Core.Path.{_≡_, refl, ap, _∙_}
 use mathlib.Core.List.{[], List, _∷_}
+use mathlib.Core.Logic.{_⊎_, inl, inr}
 use native.Mathlib.Omega.{arith}
 use Rattle.layout.specs.declared.Shape.{Shape}
 use Rattle.layout.specs.Layout.{kindOf}
-use Rattle.layout.specs.Columns.{State}
+use Rattle.layout.specs.Columns.{State, columns}
 use Rattle.trie.specs.Trie.{Node, leaf, branch, Kids, none, kid, Item, Map, empty, root}
 use Rattle.arena.specs.Shows.{behind, ShowsChain, Shows, ShowsRow, ShowsMap, Edition}
+use Rattle.arena.specs.Sound.{FreeSlot, HeldSlot}
+use Rattle.arena.specs.Holds.{OtherSlots}
 use Rattle.arena.specs.Local.{Below, Local, Grow, Shrink, SameSlots}
 use Rattle.arena.proofs.LocalLaws.{live-some, kid-live, root-live}
 
@@ -214,3 +217,17 @@ pub edition-left : {z : Shape} {σ τ : State} {H : ℕ → ℕ} {free : ℕ →
     → Shrink 0 σ τ → Local z τ H free → SameSlot σ τ s → Edition z σ s m → Edition z τ s m
 edition-left {s = s} {m = m} P I e E =
     edition-same e (map-left P I m _ (root-live I s (E .slot)) (rw (e .root-eq) (E .shows))) E
+
+-- THE OTHER SLOTS. Where a slot has the same words and its edition stays, it stays free or held.
+pub slot-stays : {z : Shape} {σ τ : State} {s : ℕ} → SameSlot σ τ s → ((m : Map ℕ) → Edition z σ s m → Edition z τ s m)
+    → FreeSlot σ s ⊎ HeldSlot z σ s → FreeSlot τ s ⊎ HeldSlot z τ s
+slot-stays o stays (inl f) =
+    inl (record { not-held = o .held-eq ∙ f .not-held; no-root = o .root-eq ∙ f .no-root; no-size = o .size-eq ∙ f .no-size })
+slot-stays o stays (inr k) = inr (record { map = k .map; edition = stays (k .map) (k .edition); built = k .built })
+
+pub other-slots : (z : Shape) (a b : List ℕ) (s : ℕ) → ((i : ℕ) → (i ≡ s → ⊥) → SameSlot (columns z a) (columns z b) i)
+    → OtherSlots z a b s
+other-slots z a b s same i zero ne l = same i ne .held-eq
+other-slots z a b s same i (suc zero) ne l = same i ne .root-eq
+other-slots z a b s same i (suc (suc zero)) ne l = same i ne .size-eq
+other-slots z a b s same i (suc (suc (suc p))) ne l = absurd (omega arith)

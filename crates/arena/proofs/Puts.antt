@@ -3,16 +3,16 @@
 use Prim.Native.Nat.{ℕ}
 use mathlib.Core.Path.{_≡_, sym, ap, _∙_}
 use mathlib.Core.List.{List}
-use mathlib.Core.Logic.{_⊎_, inl, inr, ⊎-elim}
+use mathlib.Core.Logic.{inr, ⊎-elim}
 use Rattle.cases.proofs.Cases.{eq?}
 use Rattle.layout.specs.declared.Shape.{Shape}
 use Rattle.layout.specs.Header.{Header}
 use Rattle.layout.specs.Columns.{columns}
 use Rattle.trie.specs.Trie.{Map}
-use Rattle.arena.specs.Sound.{FreeSlot, HeldSlot, Sound}
+use Rattle.arena.specs.Sound.{Sound}
 use Rattle.arena.specs.Local.{Local, Grow}
 use Rattle.arena.specs.Holds.{Holds, Shelves}
-use Rattle.arena.proofs.Frames.{SameSlot, edition-kept}
+use Rattle.arena.proofs.Frames.{SameSlot, slot-stays, edition-kept}
 use Rattle.arena.proofs.Equivalent.{local-sound}
 use Rattle.arena.proofs.Shelved.{slots-in}
 
@@ -28,14 +28,6 @@ module _ {z : Shape} {a b : List ℕ} {s : ℕ} (B : Beside z a b s) where
   pub beside-keeps : (e : ℕ) (m : Map ℕ) → Holds z a e m → Holds z b e m
   beside-keeps e m E = edition-kept (B .grow) (B .others e (λ q. B .away (ap (columns z a .held) (sym q) ∙ E .held))) E
 
-  slot-stays : (j : ℕ) → (j ≡ s → ⊥) → FreeSlot (columns z a) j ⊎ HeldSlot z (columns z a) j
-      → FreeSlot (columns z b) j ⊎ HeldSlot z (columns z b) j
-  slot-stays j ne (inl f) =
-      let o = B .others j ne in
-      inl (record { not-held = o .held-eq ∙ f .not-held; no-root = o .root-eq ∙ f .no-root; no-size = o .size-eq ∙ f .no-size })
-  slot-stays j ne (inr k) =
-      inr (record { map = k .map; edition = edition-kept (B .grow) (B .others j ne) (k .edition); built = k .built })
-
   pub beside-sound : {free : ℕ → List ℕ} {m : Map ℕ} → Shelves z b s m → Local z (columns z b) (λ r. 0) free → Sound a → Sound b
   beside-sound {free} {m} N I S =
       local-sound b
@@ -46,7 +38,7 @@ module _ {z : Shape} {a b : List ℕ} {s : ℕ} (B : Beside z a b s) where
             λ j lj.
             ⊎-elim
             (λ js. inr (rw js (record { map = m; edition = N .holds; built = N .built })))
-            (λ ne. slot-stays j ne (slots-in a S z (B .before) j lj))
+            (λ ne. slot-stays (B .others j ne) (λ k E. edition-kept (B .grow) (B .others j ne) E) (slots-in a S z (B .before) j lj))
             (eq? j s);
         free = free;
         local = I;

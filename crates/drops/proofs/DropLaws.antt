@@ -1,10 +1,10 @@
 -- What drop leaves is what its definition says, and from that alone follows what it means: on a sound arena a refusal leaves the
 -- words as they are, and else the slot is empty, what it named and nothing else names is free, every other edition is the same
 -- named trie, and the arena stays sound.
-use Prim.Native.Nat.{ℕ, zero, suc, _+_, _≤_, _<_}
+use Prim.Native.Nat.{ℕ, _+_, _≤_, _<_}
 use mathlib.Core.Path.{_≡_, sym, ap, _∙_, subst}
 use mathlib.Core.List.{[], List, _∷_}
-use mathlib.Core.Logic.{_⊎_, inl, inr, ⊎-elim}
+use mathlib.Core.Logic.{_⊎_, inl, ⊎-elim}
 use native.Mathlib.Omega.{arith}
 use Rattle.cases.proofs.Cases.{split, eq?}
 use Rattle.counts.specs.Counts.{ind}
@@ -12,14 +12,14 @@ use Rattle.trie.specs.Trie.{Map, empty, root, leaf, branch}
 use Rattle.layout.specs.declared.Shape.{Shape}
 use Rattle.layout.specs.Layout.{kindOf, Lent}
 use Rattle.layout.specs.Header.{Header}
-use Rattle.layout.specs.Columns.{State, slotWord, columns, setSlotWords}
+use Rattle.layout.specs.Columns.{State, columns, setSlotWords}
 use Rattle.layout.proofs.HeaderLaws.{header-says, header-lent}
 use Rattle.arena.specs.Shows.{ShowsChain, Shows, ShowsMap}
 use Rattle.arena.specs.Sound.{FreeSlot, HeldSlot, Sound}
 use Rattle.arena.specs.Local.{Local, Shrink}
 use Rattle.arena.specs.Holds.{Holds}
 use Rattle.arena.proofs.LocalLaws.{root-live}
-use Rattle.arena.proofs.Frames.{SameSlot, edition-left, shrink-trans, slot-trans, slots-at}
+use Rattle.arena.proofs.Frames.{SameSlot, edition-left, shrink-trans, slot-trans, slots-at, slot-stays, other-slots}
 use Rattle.arena.proofs.Equivalent.{held-slot, local-sound}
 use Rattle.arena.proofs.Shelved.{local-in, slots-in}
 use Rattle.cells.specs.Frame.{Kept}
@@ -109,14 +109,6 @@ module _ (a : List ℕ) (S : Sound a) (z : Shape) (h : Header a z) (e : ℕ) (sl
   free-kept-edition : (i : ℕ) (m : Map ℕ) → (i ≡ e → ⊥) → Holds z a i m → Holds z b i m
   free-kept-edition i m ne E = edition-left shrunk (released .local) (other i ne) E
 
-  slot-stays : (i : ℕ) → (i ≡ e → ⊥) → FreeSlot (columns z a) i ⊎ HeldSlot z (columns z a) i
-      → FreeSlot (columns z b) i ⊎ HeldSlot z (columns z b) i
-  slot-stays i ne (inl f) =
-      let o = other i ne in
-      inl (record { not-held = o .held-eq ∙ f .not-held; no-root = o .root-eq ∙ f .no-root; no-size = o .size-eq ∙ f .no-size })
-  slot-stays i ne (inr k) =
-      inr (record { map = k .map; edition = free-kept-edition i (k .map) ne (k .edition); built = k .built })
-
   free-sound : Sound b
   free-sound =
       local-sound b
@@ -125,16 +117,10 @@ module _ (a : List ℕ) (S : Sound a) (z : Shape) (h : Header a z) (e : ℕ) (sl
         header = kept-header (free-kept lent e slot) h;
         slots =
             λ i l.
-            ⊎-elim (λ q. inl (rw q is-empty)) (λ ne. slot-stays i ne (slots-in a S z h i l)) (eq? i e);
+            ⊎-elim (λ q. inl (rw q is-empty)) (λ ne. slot-stays (other i ne) (λ m E. free-kept-edition i m ne E) (slots-in a S z h i l)) (eq? i e);
         free = released .free;
         local = released .local;
       })
-
-  other-words : (i p : ℕ) → (i ≡ e → ⊥) → p < 3 → slotWord z b i p ≡ slotWord z a i p
-  other-words i zero ne l = other i ne .held-eq
-  other-words i (suc zero) ne l = other i ne .root-eq
-  other-words i (suc (suc zero)) ne l = other i ne .size-eq
-  other-words i (suc (suc (suc p))) ne l = absurd (omega arith)
 
   free-means : Means a z e (leaves (done (fell a b 0) (fell a b 1)) b)
   free-means =
@@ -146,7 +132,7 @@ module _ (a : List ℕ) (S : Sound a) (z : Shape) (h : Header a z) (e : ℕ) (sl
             λ nb ne q.
             record {
               empty = is-empty;
-              others = other-words;
+              others = other-slots z a b e other;
               branches-fall = omega (arith, falls 0, ap (λ (w : Answer). w .a) q);
               entries-fall = omega (arith, falls 1, ap (λ (w : Answer). w .b) q);
               same-cells = shrunk;

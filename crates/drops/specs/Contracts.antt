@@ -1,15 +1,15 @@
 -- What drop promises: the answer and every word that it leaves, as specs/Calls.antt says, and what that means on a sound arena. What
 -- stands in quotes is document 01's.
-use Prim.Native.Nat.{ℕ, _+_, _<_}
+use Prim.Native.Nat.{ℕ, _+_}
 use mathlib.Core.Path.{_≡_}
 use mathlib.Core.List.{List}
 use Rattle.trie.specs.Trie.{Map}
 use Rattle.layout.specs.declared.Shape.{Shape}
 use Rattle.layout.specs.Header.{Header}
-use Rattle.layout.specs.Columns.{columns, slotWord}
+use Rattle.layout.specs.Columns.{columns}
 use Rattle.arena.specs.Sound.{FreeSlot, Sound}
 use Rattle.arena.specs.Local.{Shrink}
-use Rattle.arena.specs.Holds.{Holds}
+use Rattle.arena.specs.Holds.{Holds, OtherSlots}
 use Rattle.cells.specs.Frame.{Kept}
 use Rattle.replies.specs.declared.Dropped.{Dropped}
 use Rattle.replies.specs.declared.Dropped.the-variants.{Freed}
@@ -21,7 +21,7 @@ use Rattle.drops.specs.Calls.{dropOf}
 -- says; what still lives lived, with the same words. That exactly the cells which are not reached are free is what `sound` says.
 pub record Gone (z : Shape) (a b : List ℕ) (e branches entries : ℕ) : Type 0 where
   pub empty : FreeSlot (columns z b) e
-  pub others : (i p : ℕ) → (i ≡ e → ⊥) → p < 3 → slotWord z b i p ≡ slotWord z a i p
+  pub others : OtherSlots z a b e
   pub branches-fall : columns z a .used 0 ≡ columns z b .used 0 + branches
   pub entries-fall : columns z a .used 1 ≡ columns z b .used 1 + entries
   pub same-cells : Shrink 0 (columns z a) (columns z b)

@@ -1,7 +1,7 @@
 -- What an update leaves is what its definition says, and from that alone follows what it means: on a sound arena a refusal leaves the
 -- words as they are, and else the lowest free slot holds what the step makes of the edition, all others stay as they are, and the
 -- arena stays sound. All that an update has to show of itself for this is in `Writer` and `Builds`.
-use Prim.Native.Nat.{ℕ, zero, suc, _<_, _≤_}
+use Prim.Native.Nat.{ℕ, _<_, _≤_}
 use mathlib.Core.Path.{_≡_, sym, ap, _∙_, subst}
 use mathlib.Core.Bool.{true, false}
 use mathlib.Core.List.{List}
@@ -19,7 +19,8 @@ use Rattle.trie.specs.Built.{Built}
 use Rattle.trie.specs.Names.{forget}
 use Rattle.arena.specs.Sound.{HeldSlot, Sound}
 use Rattle.arena.specs.Local.{Local}
-use Rattle.arena.specs.Holds.{Holds}
+use Rattle.arena.specs.Holds.{Holds, OtherSlots}
+use Rattle.arena.proofs.Frames.{other-slots}
 use Rattle.arena.proofs.Equivalent.{held-slot}
 use Rattle.arena.proofs.Shelved.{local-in, slots-in}
 use Rattle.arena.proofs.Puts.{Beside, beside-keeps, beside-sound}
@@ -36,7 +37,7 @@ use Rattle.replies.specs.Outcomes.{Outcome, leaves}
 use Rattle.replies.proofs.AnswerLaws.{not-done}
 use Rattle.replies.proofs.Tables.{Held, HeaderNumbered}
 use Rattle.grants.specs.Rooms.{freeCells}
-use Rattle.grants.specs.Contracts.{Step, NewEdition, OtherSlots, Updates}
+use Rattle.grants.specs.Contracts.{Step, NewEdition, Updates}
 use Rattle.grants.proofs.CaseLaws.{Update, updateBy, updateOf, update-right, either-way}
 use Rattle.grants.proofs.InsideLaws.{update-kept}
 use Rattle.grants.proofs.SlotLaws.{AnswersSlot, update-slot}
@@ -87,12 +88,6 @@ refusal-means a z e step S why =
       new = λ m E s nb ne q. absurd (not-done why s nb ne q);
       others = λ s nb ne q. absurd (not-done why s nb ne q);
     }
-
-other-slots : {z : Shape} {a b : List ℕ} {s : ℕ} → Beside z a b s → OtherSlots z a b s
-other-slots B i zero ne l = B .others i ne .held-eq
-other-slots B i (suc zero) ne l = B .others i ne .root-eq
-other-slots B i (suc (suc zero)) ne l = B .others i ne .size-eq
-other-slots B i (suc (suc (suc p))) ne l = absurd (omega arith)
 
 module _ {a : List ℕ} {e : ℕ} {step : Shape → Step} {u : Shape → Update} (W : Writer a e step u) (S : Sound a) (z : Shape)
     (head : Header a z) where
@@ -173,7 +168,7 @@ module _ {a : List ℕ} {e : ℕ} {step : Shape → Step} {u : Shape → Update}
           others =
               λ t nb ne y.
               let w : doneTaking s (u z .branches) (u z .entries) ≡ doneTaking t nb ne = rw (D .done) at y in
-              rw (D .done, ← ap (λ (x : Answer). x .a) w) (other-slots B);
+              rw (D .done, ← ap (λ (x : Answer). x .a) w) (other-slots z a _ _ (B .others));
         }
 
   update-means : Builds step → Means a z e (step z) (updateBy z a e (u z))

@@ -9,9 +9,9 @@ use Rattle.trie.specs.Cells.{Taken}
 use Rattle.layout.specs.declared.Shape.{Shape}
 use Rattle.layout.specs.Layout.{reference, names}
 use Rattle.layout.specs.Header.{Header}
-use Rattle.layout.specs.Columns.{columns, slotWord}
+use Rattle.layout.specs.Columns.{columns}
 use Rattle.arena.specs.Sound.{Sound}
-use Rattle.arena.specs.Holds.{Holds, Keeps}
+use Rattle.arena.specs.Holds.{Holds, Keeps, OtherSlots}
 use Rattle.cells.specs.declared.Slot.the-variants.{At}
 use Rattle.cells.specs.Frame.{Kept}
 use Rattle.cells.specs.Slots.{freeSlot}
@@ -46,10 +46,6 @@ pub record NewEdition (z : Shape) (a b : List ℕ) (step : Step) (m : Map ℕ) (
   pub new-entries : Fresh z a 1 entries entry-names
   pub branches-rise : columns z b .used 0 ≡ columns z a .used 0 + branches
   pub entries-rise : columns z b .used 1 ≡ columns z a .used 1 + entries
-
--- no slot but s is written
-abbrev pub OtherSlots : Shape → List ℕ → List ℕ → ℕ → Type 0
-OtherSlots z a b s = (i p : ℕ) → (i ≡ s → ⊥) → p < 3 → slotWord z b i p ≡ slotWord z a i p
 
 -- An update of edition e, whose outcome is o. On any words: the answer and every word, words 0 to 7 and those beyond the total as
 -- before, and "the result in the lowest free slot". On a sound arena: sound again, every edition that was held is the same named
