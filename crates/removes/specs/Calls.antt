@@ -70,7 +70,8 @@ unfoldable pub lacks : ℕ → ℕ → Bool
 lacks leaf before = cond (eqb leaf 0) (ltb 0 before) false
 
 unfoldable pub chainTo : Shape → ℕ → Cut → ℕ → Wrote → Outcome
-chainTo z h p s w = cond (lacks (w .at) (p .before)) (leaves (refused Why.NoEntryCells) (w .words)) (prunedTo z h p s (w .at) (w .words))
+chainTo z h p s w =
+    cond (lacks (w .at) (p .before)) (leaves (refused Why.NoEntryCells) (w .words)) (prunedTo z h p s (w .at) (w .words))
 
 abbrev pub takeTo : Shape → List ℕ → ℕ → Cut → ℕ → Outcome
 takeTo z a h p s = chainTo z h p s (takeFrom z (p .before) (p .front) (p .rest) a)
