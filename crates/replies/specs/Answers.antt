@@ -18,6 +18,8 @@ use Rattle.replies.specs.declared.InUse.{InUse}
 use Rattle.replies.specs.declared.InUse.the-variants as U
 use Rattle.replies.specs.declared.Dropped.{Dropped}
 use Rattle.replies.specs.declared.Dropped.the-variants as G
+use Rattle.replies.specs.declared.Checked.{Checked}
+use Rattle.replies.specs.declared.Checked.the-variants as K
 
 pub record Answer : Type 0 where
   pub number : ℕ
@@ -76,6 +78,10 @@ inUse (U.Refused r) = refused r
 abbrev pub dropped : Dropped → Answer
 dropped (G.Freed b n) = done b n
 dropped (G.Refused r) = refused r
+
+abbrev pub checked : Checked → Answer
+checked K.Sound = done 0 0
+checked (K.Refused r) = refused r
 
 abbrev pub found : Found → Answer
 found (D.Value v) = done v 0

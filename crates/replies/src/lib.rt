@@ -90,3 +90,9 @@ pub enum Dropped {
     Freed { branches: u64, entries: u64 },
     Refused(Refusal),
 }
+
+// What a check answers: document 01's number is 0 for a sound arena.
+pub enum Checked {
+    Sound,
+    Refused(Refusal),
+}

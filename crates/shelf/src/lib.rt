@@ -9,6 +9,7 @@
 
 use layout::Heading;
 use layout::header;
+pub use replies::Checked;
 pub use replies::Compared;
 pub use replies::Counted;
 pub use replies::Dropped;
@@ -22,6 +23,7 @@ ghost use Rattle.makes.specs.Contracts.{Formats, MakesNew, Shares};
 ghost use Rattle.updates.specs.Contracts.{Inserts, Changes};
 ghost use Rattle.removes.specs.Contracts.{Removes};
 ghost use Rattle.drops.specs.Contracts.{Drops};
+ghost use Rattle.checks.specs.Contracts.{Checks};
 ghost use Rattle.looks.specs.Contracts.{Sizes, Uses, Gets, Lists, Compares};
 
 // Makes an arena of the words: all cells free, no edition held. Words beyond the total stay as they are.
@@ -142,5 +144,16 @@ pub fn equal(a: &[u64], first: u64, second: u64) -> Compared
     match header::read(a) {
         Heading::Right(z) => looks::equal(a, z, first, second),
         Heading::Wrong => Compared::Refused(Refusal::Damaged),
+    }
+}
+
+// Whether the arena is sound: on 0 it is, and the work words have each branch's, then each entry's count; on 4 it is not, and
+// these words are 0. Work words behind them stay, and the arena is only read.
+pub fn check(a: &[u64], work: &mut [u64]) -> Checked
+    ensures { λ r. ⌜ Checks (now (a .entry)) (now (work .entry)) r (now (work .exit)) ⌝ }
+{
+    match header::read(a) {
+        Heading::Right(z) => checks::check(a, work, z),
+        Heading::Wrong => Checked::Refused(Refusal::Damaged),
     }
 }

@@ -1,0 +1,9 @@
+pub mod Paths
+pub mod PrefixLaws
+pub mod LeadLaws
+pub mod SeenLaws
+pub mod SamePrefix
+pub mod ShownLaws
+pub mod StepLaws
+pub mod CaseLaws
+pub mod SlotLaws
