@@ -44,7 +44,7 @@ module _ (z : Shape) (σ : State) where
 
 -- WHERE THE TESTS OF ALL ENTRIES PASS
 module _ (z : Shape) (σ : State) (entries : entriesRight z σ ≡ true) where
-  entry-tested : (r : ℕ) → 0 < refs z r → kindOf r ≡ 1 → entryRight z σ r ≡ true
+  pub entry-tested : (r : ℕ) → 0 < refs z r → kindOf r ≡ 1 → entryRight z σ r ≡ true
   unfolding entriesRight
   entry-tested r l e =
       let c = ref-cell z r l in

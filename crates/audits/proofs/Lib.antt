@@ -6,3 +6,4 @@ pub mod LinkLaws
 pub mod EntryLaws
 pub mod FreeLaws
 pub mod CellLaws
+pub mod LookedLaws

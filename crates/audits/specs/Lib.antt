@@ -1,1 +1,2 @@
 pub mod Audits
+pub mod Looked

@@ -10,7 +10,6 @@ use Rattle.layout.specs.Header.{Header, headerOf}
 use Rattle.layout.specs.declared.Heading.the-variants.{Right, Wrong}
 use Rattle.layout.proofs.HeaderLaws.{header-says}
 use Rattle.layout.specs.Columns.{State, columns}
-use Rattle.arena.specs.Sound.{Sound}
 use Rattle.arena.specs.Local.{occ}
 use Rattle.arena.proofs.Equivalent.{header-degree}
 use Rattle.arena.proofs.RefLaws.{names-refs}
@@ -19,7 +18,7 @@ use Rattle.audits.proofs.AllLaws.{false-true}
 use Rattle.audits.proofs.CellLaws.{branch-deep}
 use Rattle.audits.proofs.LiveLaws.{live-cell}
 use Rattle.levels.specs.Levels.{levelsSeen, slotsRight, Known, OnlyBranches}
-use Rattle.tallies.specs.Tallies.{workWords, workAt, Works, countsRight}
+use Rattle.tallies.specs.Tallies.{workWords, Works, countsRight}
 use Rattle.tallies.proofs.CountsLaws.{counts-say, counts-are}
 use Rattle.checks.specs.Contracts.{Judged}
 use Rattle.checks.proofs.Passed.{Passed}

@@ -4,3 +4,4 @@ pub mod SoundLaws
 pub mod Standing
 pub mod PassedLaws
 pub mod JudgeLaws
+pub mod ExactLaws

@@ -9,14 +9,14 @@ use native.Mathlib.Omega.{arith}
 use lib.ListN.{length, length-append}
 use Rattle.cases.proofs.Cases.{eq?}
 use Rattle.segments.specs.Segments.{segment}
-use Rattle.segments.proofs.SegmentLaws.{hashes-differ}
 use Rattle.layout.specs.declared.Shape.{Shape}
 use Rattle.layout.specs.Layout.{kindOf, Allowed}
 use Rattle.layout.specs.Columns.{State, refs}
 use Rattle.layout.proofs.SizeLaws.{rowIn, row-is-right}
 use Rattle.trie.specs.Entry.{Entry, Word64}
 use Rattle.trie.specs.Trie.{Node, leaf, branch, Kids, none, kid, Item, Map, empty, root, find, listingChain, listingNode, listingKids, listing, size}
-use Rattle.trie.specs.Canon.{AllKids, Busy, AllItems, Distinct, NonEmpty, Under, In, Canon, Canonical}
+use Rattle.trie.specs.Canon.{AllKids, Busy, AllItems, Distinct, NonEmpty, In, Canon, Canonical}
+use Rattle.trie.proofs.DegreeLaws.{one-hash}
 use Rattle.arena.specs.Shows.{behind, ShowsChain, Shows, ShowsRow, ShowsMap}
 use Rattle.arena.specs.Sound.{Reached, from-slot, from-cell}
 use Rattle.arena.proofs.RefLaws.{refs-entry}
@@ -104,35 +104,17 @@ module _ (z : Shape) (σ : State) (clip : (q k : ℕ) → refs z q ≤ k → σ 
     reached-standing r (from-cell q k w nz) =
         let p = reached-standing q w in kid-shown q k (p .node) (p .left) (p .path) (p .shows) (p .canon) (p .place) (p .few) nz
 
--- ONE HASH. Two hashes that have the segments of a path have the same segments,
-under-same : (seg : ℕ → ℕ → ℕ) (path : List ℕ) (h h′ : ℕ) → Under seg path h → Under seg path h′ → (t : ℕ) → t < length path
-    → seg t h ≡ seg t h′
-unfolding Under
-under-same seg [] h h′ u u′ t l = absurd (omega arith)
-under-same seg (s ∷ path) h h′ u u′ t l =
-    ⊎-elim
-    (λ e. rw e (u .0 ∙ sym (u′ .0)))
-    (λ ne. under-same seg path h h′ (u .1) (u′ .1) t (omega arith))
-    (eq? t (length path))
-
+-- ONE HASH to a chain: its entries are under a path of all depths
 module _ (z : Shape) (w : Allowed z) where
   abbrev In64 : List ℕ → Entry → Type 0
   In64 path e = In (segment (z .bits)) Word64 path e
-
-  -- and along a path of all depths they are one hash
-  one-hash : (path : List ℕ) → length path ≡ z .depths → (e x : Entry) → In64 path e → In64 path x → x .hash ≡ e .hash
-  one-hash path len e x a b =
-      ⊎-elim
-      (λ q. q)
-      (λ (t, l, ne). absurd (ne (under-same (segment (z .bits)) path (x .hash) (e .hash) (b .0) (a .0) t (omega arith))))
-      (hashes-differ (rowIn z w) (row-is-right z w) (x .hash) (e .hash) (b .1 .hash-fits) (a .1 .hash-fits))
 
   all-one : (path : List ℕ) → length path ≡ z .depths → (e : Entry) → In64 path e → (g : ℕ) → g ≡ e .hash
       → (xs : List (Item ℕ)) → AllItems (In64 path) xs → AllItems (λ x. (x .hash ≡ g) × Word64 x) xs
   unfolding AllItems
   all-one path len e i g q [] a = tt
   all-one path len e i g q (x ∷ xs) a =
-      ((one-hash path len e (x .entry) i (a .0) ∙ sym q, a .0 .1), all-one path len e i g q xs (a .1))
+      ((one-hash (rowIn z w) (row-is-right z w) path len (x .entry) e (a .0) i ∙ sym q, a .0 .1), all-one path len e i g q xs (a .1))
 
   module _ (σ : State) (live : (r : ℕ) → 0 < σ .count r → 0 < refs z r) where
     -- THE CHAIN THAT AN ENTRY SHOWS

@@ -1,9 +1,10 @@
 pub mod Paths
+pub mod Children
 pub mod PrefixLaws
 pub mod LeadLaws
 pub mod SeenLaws
 pub mod SamePrefix
 pub mod ShownLaws
-pub mod StepLaws
 pub mod CaseLaws
+pub mod StepLaws
 pub mod SlotLaws

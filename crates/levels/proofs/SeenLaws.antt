@@ -2,19 +2,19 @@
 -- are seen. An entry shows its chain, which stands where a hash is exhausted or is a single; a branch shows the nodes that its
 -- children show, whose paths go on from its own.
 use Prim.Native.Nat.{ℕ, zero, suc, _+_, _^_, _≤_, _<_}
-use mathlib.Core.Path.{_≡_, refl, sym, ap, subst, _∙_}
+use mathlib.Core.Path.{_≡_, sym, ap, subst, _∙_}
 use mathlib.Core.Bool.{true}
 use mathlib.Core.List.{List, [], _∷_}
 use mathlib.Core.Logic.{_⊎_, inl, inr, ⊎-elim}
 use native.Mathlib.Omega.{arith}
 use borrow.Author.Tests.{eqb-true}
 use lib.Dec.{eqb}
-use lib.ListN.{length, length-append}
+use lib.ListN.{length}
 use Rattle.cases.proofs.Cases.{eq?, lt?}
 use Rattle.segments.specs.Segments.{segment}
 use Rattle.trie.specs.Entry.{Entry, Word64}
 use Rattle.trie.specs.Trie.{Node, leaf, branch, Kids, none, kid, Item, listingChain, listingNode, listingKids}
-use Rattle.trie.specs.Canon.{Above, Asc, AllKids, Some, Big, Busy, AllItems, Distinct, NonEmpty, Under as Goes, In, Canon}
+use Rattle.trie.specs.Canon.{Asc, AllKids, Some, Big, Busy, AllItems, Distinct, NonEmpty, In, Canon, Under as Goes}
 use Rattle.layout.specs.declared.Shape.{Shape}
 use Rattle.layout.specs.Layout.{kindOf, cellOf}
 use Rattle.layout.specs.Columns.{State}
@@ -28,34 +28,9 @@ use Rattle.levels.specs.declared.Seen.{Seen}
 use Rattle.levels.specs.declared.Seen.the-variants.{Under}
 use Rattle.levels.specs.Levels.{seenEntry, closed, rowFrom, seeFrom}
 use Rattle.levels.proofs.Paths.{pathOf, asked, SeenAs}
+use Rattle.levels.proofs.Children.{chain-length, kids-length, From, from-above, from-asc}
 use Rattle.levels.proofs.PrefixLaws.{prefix-path, path-under}
 use Rattle.levels.proofs.LeadLaws.{no-fault, see-says, entry-says, closed-says, segmentAt, Child, row-says, branch-says, seen-lead}
-
--- LISTINGS
-chain-length : (xs : List (Item ℕ)) → length (listingChain xs) ≡ length xs
-unfolding listingChain
-chain-length [] = refl
-chain-length (x ∷ xs) = ap suc (chain-length xs)
-
-kids-length : (g : ℕ) (m : Node ℕ) (ks : Kids ℕ)
-    → length (listingKids (kid g m ks)) ≡ length (listingNode m) + length (listingKids ks)
-unfolding listingKids
-kids-length g m ks = length-append (listingNode m) (listingKids ks)
-
--- SEGMENTS. They are low or more, and they ascend.
-unfoldable From : ℕ → Kids ℕ → Type 0
-From low none = Unit {0}
-From low (kid i m ks) = (low ≤ i) × Above i ks
-
-from-above : (g : ℕ) (ks : Kids ℕ) → From (suc g) ks → Above g ks
-unfolding From Above
-from-above g none f = tt
-from-above g (kid i m ks) f = (omega (arith, f .0), f .1)
-
-from-asc : (low : ℕ) (ks : Kids ℕ) → From low ks → Asc ks
-unfolding From Asc
-from-asc low none f = tt
-from-asc low (kid i m ks) f = f .1
 
 -- an only child of a branch with two or more entries is no single
 big : (m : Node ℕ) → 1 < length (listingNode m) → Big m

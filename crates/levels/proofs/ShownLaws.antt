@@ -9,7 +9,7 @@ use mathlib.Core.List.{[], List, _∷_}
 use native.Mathlib.Omega.{arith}
 use borrow.Author.Tests.{eq-eqb, ne-eqb, lt-ltb, le-leb}
 use lib.Dec.{eqb, ltb}
-use lib.ListN.{length, length-append}
+use lib.ListN.{length}
 use Rattle.cases.proofs.Cases.{eq?}
 use Rattle.segments.specs.Segments.{segment}
 use Rattle.layout.specs.declared.Shape.{Shape}
@@ -18,7 +18,7 @@ use Rattle.layout.specs.Columns.{State, columns, refs}
 use Rattle.lookup.specs.Lookup.{namesKind}
 use Rattle.trie.specs.Entry.{Word64}
 use Rattle.trie.specs.Trie.{Node, leaf, branch, Kids, none, kid, Item, listingChain, listingNode, listingKids}
-use Rattle.trie.specs.Canon.{Above, Asc, AllKids, Some, Big, Busy, AllItems, NonEmpty, Under as Has, In, Canon}
+use Rattle.trie.specs.Canon.{AllKids, Some, Big, Busy, AllItems, NonEmpty, In, Canon, Under as Has}
 use Rattle.trie.proofs.RemoveCanon.{canon-root}
 use Rattle.arena.specs.Shows.{bitmap, behind, ShowsChain, Shows, ShowsRow}
 use Rattle.arena.proofs.RefLaws.{refs-some, refs-branch}
@@ -31,6 +31,7 @@ use Rattle.levels.specs.declared.Seen.{Seen}
 use Rattle.levels.specs.declared.Seen.the-variants.{Fault, Under}
 use Rattle.levels.specs.Levels.{onSeen, seenEntry, seeBy, fits, closed, rowFrom, branchBy, seeFrom}
 use Rattle.levels.proofs.Paths.{asked}
+use Rattle.levels.proofs.Children.{chain-length, kids-length, From, above-from, asc-from}
 use Rattle.levels.proofs.SamePrefix.{same-prefix}
 
 -- the leftmost entry's reference; 0 where there is none
@@ -44,17 +45,7 @@ unfoldable mutual
   leadIn none = 0
   leadIn (kid s m ks) = leadOf m
 
--- HOW MANY ENTRIES. A node has one, and a branch below the root has two.
-chain-length : (xs : List (Item ℕ)) → length (listingChain xs) ≡ length xs
-unfolding listingChain
-chain-length [] = refl
-chain-length (x ∷ xs) = ap suc (chain-length xs)
-
-kids-length : (s : ℕ) (m : Node ℕ) (ks : Kids ℕ)
-    → length (listingKids (kid s m ks)) ≡ length (listingNode m) + length (listingKids ks)
-unfolding listingNode
-kids-length s m ks = length-append (listingNode m) (listingKids ks)
-
+-- HOW MANY ENTRIES. A node has one, and a branch below the root has two, by
 -- what is asked of the children of a branch at a depth
 asked-some : (t : ℕ) (ks : Kids ℕ) → asked t ks → Some ks
 unfolding asked Some Busy
@@ -112,21 +103,6 @@ module _ (seg : ℕ → ℕ → ℕ) where
   unfolding asked
   asked-many n zero path ks q a = inl refl
   asked-many n (suc t) path ks q a = inr (two-entries n path ks q a)
-
--- SEGMENTS FROM low ON, in ascending order
-unfoldable From : ℕ → Kids ℕ → Type 0
-From low none = Unit {0}
-From low (kid s m ks) = (low ≤ s) × Above s ks
-
-from-above : (s : ℕ) (ks : Kids ℕ) → Above s ks → From (suc s) ks
-unfolding From Above
-from-above s none a = tt
-from-above s (kid i m ks) a = (omega (arith, a .0), a .1)
-
-from-asc : (ks : Kids ℕ) → Asc ks → From 0 ks
-unfolding From Asc
-from-asc none a = tt
-from-asc (kid s m ks) a = (omega arith, a)
 
 module _ (z : Shape) (σ : State) (named : (r : ℕ) → 0 < σ .count r → names z r ≡ true)
     (clip : (q j : ℕ) → z .degree ≤ j → kindOf q ≡ 0 → σ .kid q j ≡ 0) where
@@ -271,7 +247,7 @@ module _ (z : Shape) (σ : State) (named : (r : ℕ) → 0 < σ .count r → nam
           row-step k low bits size fuel s m (rw here at (h .0)) (a .0) (up .0) (omega arith)
           ∙ row-seen ks fuel (suc k) (suc s) (bits + 2 ^ s) (size + length (listingNode m)) (behind f) (omega arith)
           (λ j. let q : k + suc j ≡ suc k + j = omega arith in e (suc j) ∙ ap (σ .kid r) q)
-          (h .1) (from-above s ks (up .1)) (a .1) (omega arith) (omega arith)
+          (h .1) (above-from s ks (up .1)) (a .1) (omega arith) (omega arith)
 
     -- A BRANCH: its first child is there, whose leftmost entry is its own
     branch-seen : (c : ℕ) (ks : Kids ℕ) → Shows σ (branch c ks) t r → leadIn ks ≡ l → asked t ks → Each seg n path ks
@@ -288,7 +264,7 @@ module _ (z : Shape) (σ : State) (named : (r : ℕ) → 0 < σ .count r → nam
         )
         (row-seen (length (listingKids (kid s m ks))) room (asked-many seg n t path (kid s m ks) q a)
         (kid s m ks) (z .degree) 0 0 0 0 (σ .kid r) (omega arith) (λ j. let q : j ≡ 0 + j = omega arith in ap (σ .kid r) q)
-        (h .5) (from-asc (kid s m ks) (h .4)) a (omega (arith, h .3)) (omega arith))
+        (h .5) (asc-from (kid s m ks) (h .4)) a (omega (arith, h .3)) (omega arith))
 
   -- the reference of a branch, where its children are seen as they are
   node-seen : (n : ℕ) (path : List ℕ)

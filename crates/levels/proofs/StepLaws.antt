@@ -1,5 +1,5 @@
 -- The steps of a row, of a branch and of a level.
-use Prim.Native.Nat.{ℕ, zero, suc, _+_, _-_, _*_, _/_, _%_, _^_, _≤_, _<_}
+use Prim.Native.Nat.{ℕ, suc, _+_, _-_, _*_, _/_, _%_, _^_, _≤_, _<_}
 use mathlib.Core.Path.{_≡_, refl, sym, ap, ap₂, _∙_, subst}
 use mathlib.Core.Bool.{Bool, true, false, cond}
 use mathlib.Core.List.{List}
@@ -8,7 +8,7 @@ use native.Mathlib.Omega.{arith}
 use native.Mathlib.Nat.{pow-succ'}
 use lib.Pow.{pow-mono}
 use borrow.Author.Tests.{eq-eqb, ne-eqb, eqb-true, eqb-false}
-use lib.Dec.{eqb, ltb, leb}
+use lib.Dec.{eqb}
 use lib.ListN.{length, getD, set, length-set}
 use lib.Seq.{getD-set-same, getD-set-other}
 use Rattle.cases.proofs.Cases.{split, eq?, Tri, is-less, is-equal, is-more, tri}
@@ -23,17 +23,14 @@ use Rattle.arena.proofs.RefLaws.{names-of}
 use Rattle.lookup.specs.Lookup.{namesKind}
 use Rattle.lookup.proofs.FindLaws.{kind-says, kind-is, kind-other}
 use Rattle.audits.specs.Audits.{allFrom, noneFrom, isLive}
-use Rattle.audits.proofs.AllLaws.{all-on, all-stops, all-over}
+use Rattle.audits.proofs.AllLaws.{false-true, all-on, all-stops, all-over}
 use Rattle.audits.proofs.LiveLaws.{live-says, live-is}
 use Rattle.levels.specs.declared.Seen.{Seen}
 use Rattle.levels.specs.declared.Seen.the-variants.{Fault, Under}
-use Rattle.levels.specs.Levels.{onSeen, isSeen, leadIn, sizeIn, fits, closed, ended, rowFrom, branchBy, seeBy, seeFrom, seeAt, isAt, branchSeen, levelSeen, levelsSeen, kept, keptAs, Known, KeptAt, OnlyAt, OnlyBranches}
+use Rattle.levels.specs.Levels.{onSeen, leadIn, sizeIn, fits, closed, ended, rowFrom, branchBy, seeBy, seeFrom, seeAt, isAt, branchSeen, levelSeen, levelsSeen, kept, keptAs, Known, KeptAt, OnlyAt, OnlyBranches}
 use Rattle.lookup.proofs.Meaning.{segment-low}
 use Rattle.levels.proofs.LeadLaws.{seen-lead, seen-few}
 use Rattle.levels.proofs.CaseLaws.{shift-one}
-
-pub false-true : false ≡ true → ⊥
-false-true e = let n : _≡_ {A = ℕ} 0 1 = cc in omega arith
 
 not-live : (z : Shape) (σ : State) (k r : ℕ) → (kindOf r ≡ k → ⊥) → isLive z σ k r ≡ false
 unfolding isLive

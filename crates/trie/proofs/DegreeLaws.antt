@@ -39,7 +39,7 @@ module _ (r : Row) (right : Right r) where
   seg = segment (r .bits)
 
   -- two entries under a path of all depths have one hash
-  one-hash : (path : List ℕ) → length path ≡ r .depths → (e x : Entry) → In seg Word64 path e → In seg Word64 path x → e .hash
+  pub one-hash : (path : List ℕ) → length path ≡ r .depths → (e x : Entry) → In seg Word64 path e → In seg Word64 path x → e .hash
       ≡ x .hash
   one-hash path len e x (u, w) (u', w') =
       ⊎-elim (λ q. q) (λ (t, l, ne). absurd (ne (under-same seg path (e .hash) (x .hash) u u' t (omega arith))))

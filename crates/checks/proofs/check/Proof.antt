@@ -3,7 +3,6 @@ use mathlib.Core.Path.{_∙_}
 use Rattle.checks.specs.Contracts.{short-work, not-sound, is-sound}
 use Rattle.checks.proofs.JudgeLaws.{works-after}
 use native.Mathlib.Omega.{arith}
-use borrow.Author.Needs.{needs}
 use Rattle.checks.proofs.check.Statement.{statement}
 use Rattle.checks.proofs.check.Tie as tie
 

@@ -4,7 +4,6 @@ use borrow.Author.Tests.{not-true, not-false}
 use Rattle.layout.proofs.HeaderLaws.{header-lent}
 use Rattle.checks.proofs.JudgeLaws.{stays-none, stays-levels, stays-works, known-none, no-entries, no-branches, no-levels, no-slots, no-counts, no-chain, judged-by-keys}
 use native.Mathlib.Omega.{arith}
-use borrow.Author.Needs.{needs}
 use Rattle.checks.proofs.is_sound.Statement.{statement}
 use Rattle.checks.proofs.is_sound.Tie as tie
 

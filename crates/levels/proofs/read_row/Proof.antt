@@ -1,7 +1,7 @@
 -- `levels::read_row` meets its contract: what is left of the row, from the child at hand on, comes to what the whole row comes to.
 -- Assumes nothing.
-use Prim.Native.Nat.{ℕ, suc, _-_, _^_, _≤_, _<_}
-use mathlib.Core.Path.{_≡_, refl, sym, ap, _∙_, subst}
+use Prim.Native.Nat.{suc, _-_, _^_, _≤_, _<_}
+use mathlib.Core.Path.{_≡_, refl, sym, ap, _∙_}
 use native.Mathlib.Omega.{arith}
 use borrow.Author.Needs.{needs}
 use borrow.Author.Tests.{not-true, not-false}
@@ -10,10 +10,9 @@ use Rattle.layout.proofs.SizeLaws.{row-is-right, small}
 use Rattle.segments.specs.Segments.{segment}
 use Rattle.segments.proofs.TableLaws.{below-depths}
 use Rattle.lookup.proofs.FindLaws.{entry-word, has-part}
-use Rattle.lookup.proofs.Meaning.{segment-low}
-use Rattle.levels.specs.Levels.{rowFrom, seeAt, Known}
+use Rattle.levels.specs.Levels.{rowFrom, seeAt}
 use Rattle.levels.proofs.LeadLaws.{fits-says}
-use Rattle.levels.proofs.StepLaws.{child-fault, child-seen, lead-named, few-depths, known-at, row-shift, bits-below, bits-fit, low-segment, fits-same, next-bit, row-first, row-over, row-ends, row-fault, row-unfit, row-next}
+use Rattle.levels.proofs.StepLaws.{child-fault, child-seen, lead-named, few-depths, known-at, row-shift, bits-below, bits-fit, low-segment, fits-same, row-first, row-over, row-ends, row-fault, row-unfit, row-next}
 use Rattle.levels.proofs.read_row.Statement.{statement}
 use Rattle.levels.proofs.read_row.Tie as tie
 

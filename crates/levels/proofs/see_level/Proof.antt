@@ -2,9 +2,9 @@
 use Prim.Native.Nat.{_-_, _≤_}
 use mathlib.Core.Path.{sym, _∙_}
 use borrow.Author.Tests.{not-true, not-false}
-use Rattle.levels.proofs.StepLaws.{false-true, Through, through-first, through-next, through-stops, through-only, through-all}
+use Rattle.audits.proofs.AllLaws.{false-true}
+use Rattle.levels.proofs.StepLaws.{Through, through-first, through-next, through-stops, through-only, through-all}
 use native.Mathlib.Omega.{arith}
-use borrow.Author.Needs.{needs}
 use Rattle.levels.proofs.see_level.Statement.{statement}
 use Rattle.levels.proofs.see_level.Tie as tie
 

@@ -4,7 +4,8 @@ use mathlib.Core.Path.{_≡_, refl, sym, _∙_}
 use borrow.Author.Tests.{not-true, not-false}
 use Rattle.layout.specs.Columns.{columns}
 use Rattle.levels.specs.Levels.{levelsSeen, Known, OnlyBranches}
-use Rattle.levels.proofs.StepLaws.{false-true, known-at, only-none, only-both, levels-on, levels-stop, levels-all}
+use Rattle.audits.proofs.AllLaws.{false-true}
+use Rattle.levels.proofs.StepLaws.{known-at, only-none, only-both, levels-on, levels-stop, levels-all}
 use native.Mathlib.Omega.{arith}
 use borrow.Author.Needs.{needs}
 use Rattle.levels.proofs.see_levels.Statement.{statement}
