@@ -4,8 +4,8 @@
 //! A call takes the arena as a slice and has no precondition: on any words and numbers it ends, stays inside the slice,
 //! and refuses wrong input with document 01's number for it, with nothing written. What each call answers, and every
 //! word that it leaves, is one definition per call in specs/Calls.antt of the crates `makes`, `updates`, `removes`,
-//! `drops` and `looks`; what that means on a sound arena is in its contract (specs/Contracts.antt there). The answers are
-//! those of the crate `replies`.
+//! `drops` and `looks`; what that means on a sound arena is in its contract (specs/Contracts.antt there). Check is stated by
+//! its contract alone, in the crate `checks`. The answers are those of the crate `replies`.
 
 use layout::Heading;
 use layout::header;

@@ -38,64 +38,253 @@ kid-requires : tie.Need-kid-requires Inv-loop μ-loop
 kid-requires c κs = c .before .before .before .before .before .before .pre .0
 
 end-row-requires : tie.Need-end-row-requires Inv-loop μ-loop
-end-row-requires c κs = (c .before .before .before .before .before .before .before .before .pre .0, (c .before .before .before .before .before .before .before .before .pre .1 .1 .1 .1 .0, c .before .before .before .before .loop .inv .1))
+end-row-requires c κs = (
+  c .before .before .before .before .before .before .before .before .pre .0,
+  (
+    c .before .before .before .before .before .before .before .before .pre .1 .1 .1 .1 .0,
+    c .before .before .before .before .loop .inv .1,
+  ),
+)
 
 returns : tie.Need-returns Inv-loop μ-loop
-returns c = c .end-row .ensures ∙ sym (c .before .before .before .before .before .loop .inv .0 ∙ row-ends _ _ _ _ _ _ _ _ _ _ (c .before .before .before .if1 .taken) (sym (c .before .before .kid .ensures) ∙ c .before .if2 .taken))
+returns c =
+    c .end-row .ensures ∙ sym
+    (c .before .before .before .before .before .loop .inv .0 ∙ row-ends _ _ _ _ _ _ _ _ _ _
+    (c .before .before .before .if1 .taken) (sym (c .before .before .kid .ensures) ∙ c .before .if2 .taken))
 
 add-see : tie.Need-add-see Inv-loop μ-loop
-add-see c = record { fits = omega (arith, c .before .before .before .before .before .before .before .before .pre .1 .1 .1 .0, few-depths _ (c .before .before .before .before .before .before .before .before .pre .0 .allowed)) }
+add-see c =
+    record
+    { fits = omega (arith, c .before .before .before .before .before .before .before .before .pre .1 .1 .1 .0, few-depths _ (c .before .before .before .before .before .before .before .before .pre .0 .allowed)) }
 
 see-requires : tie.Need-see-requires Inv-loop μ-loop
-see-requires c κs = (c .before .before .before .before .before .before .before .before .pre .0, (known-at _ _ _ _ _ (omega arith) (c .before .before .before .before .before .before .before .before .pre .1 .0), c .before .before .before .before .before .before .before .before .pre .1 .1 .0))
+see-requires c κs = (
+  c .before .before .before .before .before .before .before .before .pre .0,
+  (
+    known-at _ _ _ _ _ (omega arith) (c .before .before .before .before .before .before .before .before .pre .1 .0),
+    c .before .before .before .before .before .before .before .before .pre .1 .1 .0,
+  ),
+)
 
 lead-of-requires : tie.Need-lead-of-requires Inv-loop μ-loop
 lead-of-requires c κs = search needs
 
 returns-2 : tie.Need-returns-2 Inv-loop μ-loop
-returns-2 c = sym (c .before .before .before .before .before .before .before .loop .inv .0 ∙ row-fault _ _ _ _ _ _ _ _ _ _ _ (c .before .before .before .before .before .if1 .taken) (λ e. c .before .before .before .if2 .left (c .before .before .before .before .kid .ensures ∙ e)) (child-fault _ _ _ _ _ _ (omega arith) (c .before .before .see .ensures) _ (c .before .before .before .before .kid .ensures) (sym (c .before .lead-of .ensures) ∙ c .if3 .taken)))
+returns-2 c =
+    sym
+    (c .before .before .before .before .before .before .before .loop .inv .0 ∙ row-fault _ _ _ _ _ _ _ _ _ _ _
+    (c .before .before .before .before .before .if1 .taken)
+    (λ e. c .before .before .before .if2 .left (c .before .before .before .before .kid .ensures ∙ e))
+    (child-fault _ _ _ _ _ _ (omega arith) (c .before .before .see .ensures) _ (c .before .before .before .before .kid .ensures)
+    (sym (c .before .lead-of .ensures) ∙ c .if3 .taken)))
 
 size-of-requires : tie.Need-size-of-requires Inv-loop μ-loop
 size-of-requires c κs = search needs
 
 word-requires-2 : tie.Need-word-requires-2 Inv-loop μ-loop
-word-requires-2 c κs = (c .before .before .before .before .before .before .before .before .before .before .before .before .pre .0, has-part _ _ 3 (lead-named _ _ _ _ _ _ refl (c .before .before .before .see .ensures) _ (c .before .before .lead-of .ensures) (c .before .if3 .left)) (omega arith))
+word-requires-2 c κs = (
+  c .before .before .before .before .before .before .before .before .before .before .before .before .pre .0,
+  has-part _ _ 3
+      (lead-named _ _ _ _ _ _ refl (c .before .before .before .see .ensures) _ (c .before .before .lead-of .ensures)
+      (c .before .if3 .left))
+      (omega arith),
+)
 
 is-fit-requires : tie.Need-is-fit-requires Inv-loop μ-loop
-is-fit-requires c κs = (below-depths _ (row-is-right _ (c .before .before .before .before .before .before .before .before .before .before .before .before .before .pre .0 .allowed)) _ .0 (c .before .before .before .before .before .before .before .before .before .before .before .before .before .pre .1 .1 .1 .0), (row-is-right _ (c .before .before .before .before .before .before .before .before .before .before .before .before .before .pre .0 .allowed) .few-bits, c .before .before .before .before .before .before .before .before .before .loop .inv .4))
+is-fit-requires c κs = (
+  below-depths _
+      (row-is-right _
+      (c .before .before .before .before .before .before .before .before .before .before .before .before .before .pre .0 .allowed))
+      _ .0
+      (c .before .before .before .before .before .before .before .before .before .before .before .before .before .pre .1 .1 .1 .0),
+  (
+    row-is-right _
+        (c .before .before .before .before .before .before .before .before .before .before .before .before .before .pre .0
+        .allowed)
+        .few-bits,
+    c .before .before .before .before .before .before .before .before .before .loop .inv .4,
+  ),
+)
 
 returns-3 : tie.Need-returns-3 Inv-loop μ-loop
-returns-3 c = sym (c .before .before .before .before .before .before .before .before .before .before .before .loop .inv .0 ∙ row-unfit _ _ _ _ _ _ _ _ _ _ _ (c .before .before .before .before .before .before .before .before .before .if1 .taken) (λ e. c .before .before .before .before .before .before .before .if2 .left (c .before .before .before .before .before .before .before .before .kid .ensures ∙ e)) _ _ (child-seen _ _ _ _ _ _ (omega arith) (c .before .before .before .before .before .before .see .ensures) _ _ _ (c .before .before .before .before .before .before .before .before .kid .ensures) (c .before .before .before .before .before .lead-of .ensures) (c .before .before .before .before .if3 .left) (c .before .before .before .size-of .ensures)) (fits-same _ _ _ _ _ _ _ _ _ _ (c .before .before .before .before .before .before .before .before .before .before .before .before .word .ensures ∙ sym (entry-word _ _ _ 0 (c .before .before .before .before .before .before .before .before .before .before .before .before .before .before .before .pre .1 .1 .1 .1 .1) (omega arith))) (c .before .before .word2 .ensures ∙ sym (entry-word _ _ _ 0 (lead-named _ _ _ _ _ _ refl (c .before .before .before .before .before .before .see .ensures) _ (c .before .before .before .before .before .lead-of .ensures) (c .before .before .before .before .if3 .left)) (omega arith))) (sym (c .before .is-fit .ensures) ∙ not-true _ (c .if4 .taken))))
+returns-3 c =
+    sym
+    (c .before .before .before .before .before .before .before .before .before .before .before .loop .inv .0 ∙ row-unfit _ _ _ _
+    _ _ _ _ _ _ _ (c .before .before .before .before .before .before .before .before .before .if1 .taken)
+    (λ e. c .before .before .before .before .before .before .before .if2 .left
+    (c .before .before .before .before .before .before .before .before .kid .ensures ∙ e))
+    _ _
+    (child-seen _ _ _ _ _ _ (omega arith) (c .before .before .before .before .before .before .see .ensures) _ _ _
+    (c .before .before .before .before .before .before .before .before .kid .ensures)
+    (c .before .before .before .before .before .lead-of .ensures) (c .before .before .before .before .if3 .left)
+    (c .before .before .before .size-of .ensures))
+    (fits-same _ _ _ _ _ _ _ _ _ _
+    (c .before .before .before .before .before .before .before .before .before .before .before .before .word .ensures ∙ sym
+    (entry-word _ _ _ 0
+    (c .before .before .before .before .before .before .before .before .before .before .before .before .before .before .before
+    .pre .1 .1 .1 .1 .1)
+    (omega arith)))
+    (c .before .before .word2 .ensures ∙ sym
+    (entry-word _ _ _ 0
+    (lead-named _ _ _ _ _ _ refl (c .before .before .before .before .before .before .see .ensures) _
+    (c .before .before .before .before .before .lead-of .ensures) (c .before .before .before .before .if3 .left))
+    (omega arith)))
+    (sym (c .before .is-fit .ensures) ∙ not-true _ (c .if4 .taken))))
 
 segment-at-requires : tie.Need-segment-at-requires Inv-loop μ-loop
-segment-at-requires c κs = (below-depths _ (row-is-right _ (c .before .before .before .before .before .before .before .before .before .before .before .before .before .before .before .pre .0 .allowed)) _ .0 (c .before .before .before .before .before .before .before .before .before .before .before .before .before .before .before .pre .1 .1 .1 .0), row-is-right _ (c .before .before .before .before .before .before .before .before .before .before .before .before .before .before .before .pre .0 .allowed) .few-bits)
+segment-at-requires c κs = (
+  below-depths _
+      (row-is-right _
+      (c .before .before .before .before .before .before .before .before .before .before .before .before .before .before .before
+      .pre .0 .allowed))
+      _ .0
+      (c .before .before .before .before .before .before .before .before .before .before .before .before .before .before .before
+      .pre .1 .1 .1 .0),
+  row-is-right _
+      (c .before .before .before .before .before .before .before .before .before .before .before .before .before .before .before
+      .pre .0 .allowed)
+      .few-bits,
+)
 
 add-low : tie.Need-add-low Inv-loop μ-loop
-add-low c = record { fits = omega (arith, low-segment _ (c .before .before .before .before .before .before .before .before .before .before .before .before .before .before .before .before .pre .0 .allowed) _ _ _ (c .segment-at .ensures)) }
+add-low c =
+    record
+    { fits = omega (arith, low-segment _ (c .before .before .before .before .before .before .before .before .before .before .before .before .before .before .before .before .pre .0 .allowed) _ _ _ (c .segment-at .ensures)) }
 
 shl-bits : tie.Need-shl-bits Inv-loop μ-loop
-shl-bits c = low-segment _ (c .before .before .before .before .before .before .before .before .before .before .before .before .before .before .before .before .pre .0 .allowed) _ _ _ (c .segment-at .ensures)
+shl-bits c =
+    low-segment _
+    (c .before .before .before .before .before .before .before .before .before .before .before .before .before .before .before
+    .before .pre .0 .allowed)
+    _ _ _ (c .segment-at .ensures)
 
 add-bits : tie.Need-add-bits Inv-loop μ-loop
-add-bits c = record { fits = bits-fit _ _ _ (c .before .before .before .before .before .before .before .before .before .before .before .before .loop .inv .2) (rw (c .segment-at .ensures ∙ ap (segment _ _) (c .before .before .before .word2 .ensures ∙ sym (entry-word _ _ _ 0 (lead-named _ _ _ _ _ _ refl (c .before .before .before .before .before .before .before .see .ensures) _ (c .before .before .before .before .before .before .lead-of .ensures) (c .before .before .before .before .before .if3 .left)) (omega arith)))) (fits-says _ _ _ _ _ _ _ (fits-same _ _ _ _ _ _ _ _ _ _ (c .before .before .before .before .before .before .before .before .before .before .before .before .before .word .ensures ∙ sym (entry-word _ _ _ 0 (c .before .before .before .before .before .before .before .before .before .before .before .before .before .before .before .before .pre .1 .1 .1 .1 .1) (omega arith))) (c .before .before .before .word2 .ensures ∙ sym (entry-word _ _ _ 0 (lead-named _ _ _ _ _ _ refl (c .before .before .before .before .before .before .before .see .ensures) _ (c .before .before .before .before .before .before .lead-of .ensures) (c .before .before .before .before .before .if3 .left)) (omega arith))) (sym (c .before .before .is-fit .ensures) ∙ not-false _ (c .before .if4 .left))) .0)) (low-segment _ (c .before .before .before .before .before .before .before .before .before .before .before .before .before .before .before .before .pre .0 .allowed) _ _ _ (c .segment-at .ensures)) }
+add-bits c =
+    record
+    { fits = bits-fit _ _ _ (c .before .before .before .before .before .before .before .before .before .before .before .before .loop .inv .2) (rw (c .segment-at .ensures ∙ ap (segment _ _) (c .before .before .before .word2 .ensures ∙ sym (entry-word _ _ _ 0 (lead-named _ _ _ _ _ _ refl (c .before .before .before .before .before .before .before .see .ensures) _ (c .before .before .before .before .before .before .lead-of .ensures) (c .before .before .before .before .before .if3 .left)) (omega arith)))) (fits-says _ _ _ _ _ _ _ (fits-same _ _ _ _ _ _ _ _ _ _ (c .before .before .before .before .before .before .before .before .before .before .before .before .before .word .ensures ∙ sym (entry-word _ _ _ 0 (c .before .before .before .before .before .before .before .before .before .before .before .before .before .before .before .before .pre .1 .1 .1 .1 .1) (omega arith))) (c .before .before .before .word2 .ensures ∙ sym (entry-word _ _ _ 0 (lead-named _ _ _ _ _ _ refl (c .before .before .before .before .before .before .before .see .ensures) _ (c .before .before .before .before .before .before .lead-of .ensures) (c .before .before .before .before .before .if3 .left)) (omega arith))) (sym (c .before .before .is-fit .ensures) ∙ not-false _ (c .before .if4 .left))) .0)) (low-segment _ (c .before .before .before .before .before .before .before .before .before .before .before .before .before .before .before .before .pre .0 .allowed) _ _ _ (c .segment-at .ensures)) }
 
 add-size : tie.Need-add-size Inv-loop μ-loop
-add-size c = record { fits = omega (arith, fits-says _ _ _ _ _ _ _ (fits-same _ _ _ _ _ _ _ _ _ _ (c .before .before .before .before .before .before .before .before .before .before .before .before .before .word .ensures ∙ sym (entry-word _ _ _ 0 (c .before .before .before .before .before .before .before .before .before .before .before .before .before .before .before .before .pre .1 .1 .1 .1 .1) (omega arith))) (c .before .before .before .word2 .ensures ∙ sym (entry-word _ _ _ 0 (lead-named _ _ _ _ _ _ refl (c .before .before .before .before .before .before .before .see .ensures) _ (c .before .before .before .before .before .before .lead-of .ensures) (c .before .before .before .before .before .if3 .left)) (omega arith))) (sym (c .before .before .is-fit .ensures) ∙ not-false _ (c .before .if4 .left))) .2, c .before .before .before .before .before .before .before .before .before .before .before .before .loop .inv .4, c .before .before .before .before .before .before .before .before .before .before .before .before .before .before .before .before .pre .0 .allowed .few-entries) }
+add-size c =
+    record
+    { fits = omega (arith, fits-says _ _ _ _ _ _ _ (fits-same _ _ _ _ _ _ _ _ _ _ (c .before .before .before .before .before .before .before .before .before .before .before .before .before .word .ensures ∙ sym (entry-word _ _ _ 0 (c .before .before .before .before .before .before .before .before .before .before .before .before .before .before .before .before .pre .1 .1 .1 .1 .1) (omega arith))) (c .before .before .before .word2 .ensures ∙ sym (entry-word _ _ _ 0 (lead-named _ _ _ _ _ _ refl (c .before .before .before .before .before .before .before .see .ensures) _ (c .before .before .before .before .before .before .lead-of .ensures) (c .before .before .before .before .before .if3 .left)) (omega arith))) (sym (c .before .before .is-fit .ensures) ∙ not-false _ (c .before .if4 .left))) .2, c .before .before .before .before .before .before .before .before .before .before .before .before .loop .inv .4, c .before .before .before .before .before .before .before .before .before .before .before .before .before .before .before .before .pre .0 .allowed .few-entries) }
 
 add-k : tie.Need-add-k Inv-loop μ-loop
-add-k c = record { fits = omega (arith, c .before .before .before .before .before .before .before .before .before .before .if1 .taken, small _ (c .before .before .before .before .before .before .before .before .before .before .before .before .before .before .before .before .pre .0 .allowed) .degree-high) }
+add-k c =
+    record
+    { fits = omega (arith, c .before .before .before .before .before .before .before .before .before .before .if1 .taken, small _ (c .before .before .before .before .before .before .before .before .before .before .before .before .before .before .before .before .pre .0 .allowed) .degree-high) }
 
 loop-less : tie.Need-loop-less Inv-loop μ-loop
 loop-less c = omega (arith, c .before .before .before .before .before .before .before .before .before .before .if1 .taken)
 
 loop-again : tie.Need-loop-again Inv-loop μ-loop
-loop-again c = (c .before .before .before .before .before .before .before .before .before .before .before .before .loop .inv .0 ∙ row-next _ _ _ _ _ _ _ _ _ _ _ (c .before .before .before .before .before .before .before .before .before .before .if1 .taken) (λ e. c .before .before .before .before .before .before .before .before .if2 .left (c .before .before .before .before .before .before .before .before .before .kid .ensures ∙ e)) _ _ (child-seen _ _ _ _ _ _ (omega arith) (c .before .before .before .before .before .before .before .see .ensures) _ _ _ (c .before .before .before .before .before .before .before .before .before .kid .ensures) (c .before .before .before .before .before .before .lead-of .ensures) (c .before .before .before .before .before .if3 .left) (c .before .before .before .before .size-of .ensures)) (fits-same _ _ _ _ _ _ _ _ _ _ (c .before .before .before .before .before .before .before .before .before .before .before .before .before .word .ensures ∙ sym (entry-word _ _ _ 0 (c .before .before .before .before .before .before .before .before .before .before .before .before .before .before .before .before .pre .1 .1 .1 .1 .1) (omega arith))) (c .before .before .before .word2 .ensures ∙ sym (entry-word _ _ _ 0 (lead-named _ _ _ _ _ _ refl (c .before .before .before .before .before .before .before .see .ensures) _ (c .before .before .before .before .before .before .lead-of .ensures) (c .before .before .before .before .before .if3 .left)) (omega arith))) (sym (c .before .before .is-fit .ensures) ∙ not-false _ (c .before .if4 .left))) _ (c .segment-at .ensures ∙ ap (segment _ _) (c .before .before .before .word2 .ensures ∙ sym (entry-word _ _ _ 0 (lead-named _ _ _ _ _ _ refl (c .before .before .before .before .before .before .before .see .ensures) _ (c .before .before .before .before .before .before .lead-of .ensures) (c .before .before .before .before .before .if3 .left)) (omega arith)))) ∙ row-shift _ _ _ _ _ _ _ _ _ _ _ _ _ (omega arith) (omega arith) (low-segment _ (c .before .before .before .before .before .before .before .before .before .before .before .before .before .before .before .before .pre .0 .allowed) _ _ _ (c .segment-at .ensures)) refl, omega (arith, c .before .before .before .before .before .before .before .before .before .before .if1 .taken), bits-below _ _ _ (c .before .before .before .before .before .before .before .before .before .before .before .before .loop .inv .2) (rw (c .segment-at .ensures ∙ ap (segment _ _) (c .before .before .before .word2 .ensures ∙ sym (entry-word _ _ _ 0 (lead-named _ _ _ _ _ _ refl (c .before .before .before .before .before .before .before .see .ensures) _ (c .before .before .before .before .before .before .lead-of .ensures) (c .before .before .before .before .before .if3 .left)) (omega arith)))) (fits-says _ _ _ _ _ _ _ (fits-same _ _ _ _ _ _ _ _ _ _ (c .before .before .before .before .before .before .before .before .before .before .before .before .before .word .ensures ∙ sym (entry-word _ _ _ 0 (c .before .before .before .before .before .before .before .before .before .before .before .before .before .before .before .before .pre .1 .1 .1 .1 .1) (omega arith))) (c .before .before .before .word2 .ensures ∙ sym (entry-word _ _ _ 0 (lead-named _ _ _ _ _ _ refl (c .before .before .before .before .before .before .before .see .ensures) _ (c .before .before .before .before .before .before .lead-of .ensures) (c .before .before .before .before .before .if3 .left)) (omega arith))) (sym (c .before .before .is-fit .ensures) ∙ not-false _ (c .before .if4 .left))) .0)) (low-segment _ (c .before .before .before .before .before .before .before .before .before .before .before .before .before .before .before .before .pre .0 .allowed) _ _ _ (c .segment-at .ensures)), omega (arith, low-segment _ (c .before .before .before .before .before .before .before .before .before .before .before .before .before .before .before .before .pre .0 .allowed) _ _ _ (c .segment-at .ensures)), omega (arith, fits-says _ _ _ _ _ _ _ (fits-same _ _ _ _ _ _ _ _ _ _ (c .before .before .before .before .before .before .before .before .before .before .before .before .before .word .ensures ∙ sym (entry-word _ _ _ 0 (c .before .before .before .before .before .before .before .before .before .before .before .before .before .before .before .before .pre .1 .1 .1 .1 .1) (omega arith))) (c .before .before .before .word2 .ensures ∙ sym (entry-word _ _ _ 0 (lead-named _ _ _ _ _ _ refl (c .before .before .before .before .before .before .before .see .ensures) _ (c .before .before .before .before .before .before .lead-of .ensures) (c .before .before .before .before .before .if3 .left)) (omega arith))) (sym (c .before .before .is-fit .ensures) ∙ not-false _ (c .before .if4 .left))) .2, c .before .before .before .before .before .before .before .before .before .before .before .before .loop .inv .4))
+loop-again c = (
+  c .before .before .before .before .before .before .before .before .before .before .before .before .loop .inv .0 ∙ row-next
+      _ _ _ _ _ _ _ _ _ _ _ (c .before .before .before .before .before .before .before .before .before .before .if1 .taken)
+      (λ e. c .before .before .before .before .before .before .before .before .if2 .left
+      (c .before .before .before .before .before .before .before .before .before .kid .ensures ∙ e))
+      _ _
+      (child-seen _ _ _ _ _ _ (omega arith) (c .before .before .before .before .before .before .before .see .ensures) _ _ _
+      (c .before .before .before .before .before .before .before .before .before .kid .ensures)
+      (c .before .before .before .before .before .before .lead-of .ensures)
+      (c .before .before .before .before .before .if3 .left) (c .before .before .before .before .size-of .ensures))
+      (fits-same _ _ _ _ _ _ _ _ _ _
+      (c .before .before .before .before .before .before .before .before .before .before .before .before .before .word .ensures ∙
+      sym
+      (entry-word _ _ _ 0
+      (c .before .before .before .before .before .before .before .before .before .before .before .before .before .before .before
+      .before .pre .1 .1 .1 .1 .1)
+      (omega arith)))
+      (c .before .before .before .word2 .ensures ∙ sym
+      (entry-word _ _ _ 0
+      (lead-named _ _ _ _ _ _ refl (c .before .before .before .before .before .before .before .see .ensures) _
+      (c .before .before .before .before .before .before .lead-of .ensures)
+      (c .before .before .before .before .before .if3 .left))
+      (omega arith)))
+      (sym (c .before .before .is-fit .ensures) ∙ not-false _ (c .before .if4 .left)))
+      _
+      (c .segment-at .ensures ∙ ap (segment _ _)
+      (c .before .before .before .word2 .ensures ∙ sym
+      (entry-word _ _ _ 0
+      (lead-named _ _ _ _ _ _ refl (c .before .before .before .before .before .before .before .see .ensures) _
+      (c .before .before .before .before .before .before .lead-of .ensures)
+      (c .before .before .before .before .before .if3 .left))
+      (omega arith))))
+      ∙ row-shift _ _ _ _ _ _ _ _ _ _ _ _ _ (omega arith) (omega arith)
+      (low-segment _
+      (c .before .before .before .before .before .before .before .before .before .before .before .before .before .before .before
+      .before .pre .0 .allowed)
+      _ _ _ (c .segment-at .ensures))
+      refl,
+  omega (arith, c .before .before .before .before .before .before .before .before .before .before .if1 .taken),
+  bits-below _ _ _
+      (c .before .before .before .before .before .before .before .before .before .before .before .before .loop .inv .2)
+      (rw
+      (c .segment-at .ensures ∙ ap (segment _ _)
+      (c .before .before .before .word2 .ensures ∙ sym
+      (entry-word _ _ _ 0
+      (lead-named _ _ _ _ _ _ refl (c .before .before .before .before .before .before .before .see .ensures) _
+      (c .before .before .before .before .before .before .lead-of .ensures)
+      (c .before .before .before .before .before .if3 .left))
+      (omega arith))))
+      (fits-says _ _ _ _ _ _ _
+      (fits-same _ _ _ _ _ _ _ _ _ _
+      (c .before .before .before .before .before .before .before .before .before .before .before .before .before .word .ensures ∙
+      sym
+      (entry-word _ _ _ 0
+      (c .before .before .before .before .before .before .before .before .before .before .before .before .before .before .before
+      .before .pre .1 .1 .1 .1 .1)
+      (omega arith)))
+      (c .before .before .before .word2 .ensures ∙ sym
+      (entry-word _ _ _ 0
+      (lead-named _ _ _ _ _ _ refl (c .before .before .before .before .before .before .before .see .ensures) _
+      (c .before .before .before .before .before .before .lead-of .ensures)
+      (c .before .before .before .before .before .if3 .left))
+      (omega arith)))
+      (sym (c .before .before .is-fit .ensures) ∙ not-false _ (c .before .if4 .left)))
+      .0))
+      (low-segment _
+      (c .before .before .before .before .before .before .before .before .before .before .before .before .before .before .before
+      .before .pre .0 .allowed)
+      _ _ _ (c .segment-at .ensures)),
+  omega (
+    arith,
+    low-segment _
+        (c .before .before .before .before .before .before .before .before .before .before .before .before .before .before
+        .before .before .pre .0 .allowed)
+        _ _ _ (c .segment-at .ensures),
+  ),
+  omega (
+    arith,
+    fits-says _ _ _ _ _ _ _
+        (fits-same _ _ _ _ _ _ _ _ _ _
+        (c .before .before .before .before .before .before .before .before .before .before .before .before .before .word .ensures
+        ∙ sym
+        (entry-word _ _ _ 0
+        (c .before .before .before .before .before .before .before .before .before .before .before .before .before .before
+        .before .before .pre .1 .1 .1 .1 .1)
+        (omega arith)))
+        (c .before .before .before .word2 .ensures ∙ sym
+        (entry-word _ _ _ 0
+        (lead-named _ _ _ _ _ _ refl (c .before .before .before .before .before .before .before .see .ensures) _
+        (c .before .before .before .before .before .before .lead-of .ensures)
+        (c .before .before .before .before .before .if3 .left))
+        (omega arith)))
+        (sym (c .before .before .is-fit .ensures) ∙ not-false _ (c .before .if4 .left)))
+        .2,
+    c .before .before .before .before .before .before .before .before .before .before .before .before .loop .inv .4,
+  ),
+)
 
 close-requires : tie.Need-close-requires Inv-loop μ-loop
-close-requires c κs = (c .before .before .before .before .before .before .pre .0, c .before .before .before .before .before .before .pre .1 .1 .1 .1 .0)
+close-requires c κs = (
+  c .before .before .before .before .before .before .pre .0,
+  c .before .before .before .before .before .before .pre .1 .1 .1 .1 .0,
+)
 
 returns-4 : tie.Need-returns-4 Inv-loop μ-loop
-returns-4 c = c .close .ensures ∙ sym (c .before .before .before .loop .inv .0 ∙ row-over _ _ _ _ _ _ _ _ _ _ _ (omega (arith, c .before .if1 .left)))
+returns-4 c =
+    c .close .ensures ∙ sym
+    (c .before .before .before .loop .inv .0 ∙ row-over _ _ _ _ _ _ _ _ _ _ _ (omega (arith, c .before .if1 .left)))
 
 pub read-row-spec : {M : Type 1} → statement M
 read-row-spec =

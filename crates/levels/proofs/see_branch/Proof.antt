@@ -9,10 +9,12 @@ use Rattle.levels.proofs.see_branch.Statement.{statement}
 use Rattle.levels.proofs.see_branch.Tie as tie
 
 mul-r : tie.Need-mul-r
-mul-r c = record { fits = omega (arith, (c .before .before .pre .1 .1 .1 .1), c .before .before .pre .0 .allowed .few-branches) }
+mul-r c =
+    record { fits = omega (arith, (c .before .before .pre .1 .1 .1 .1), c .before .before .pre .0 .allowed .few-branches) }
 
 add-r : tie.Need-add-r
-add-r c = record { fits = omega (arith, (c .before .before .pre .1 .1 .1 .1), c .before .before .pre .0 .allowed .few-branches) }
+add-r c =
+    record { fits = omega (arith, (c .before .before .pre .1 .1 .1 .1), c .before .before .pre .0 .allowed .few-branches) }
 
 is-at-requires : tie.Need-is-at-requires
 is-at-requires c κs = (c .before .before .pre .0, branch-at _ _ _ (c .before .before .pre .1 .1 .1 .1) (omega arith))
@@ -21,7 +23,19 @@ returns : tie.Need-returns
 returns c = sees-off _ _ _ _ _ _ (omega arith) (sym (c .before .is-at .ensures) ∙ not-true _ (c .if1 .taken))
 
 read-branch-requires : tie.Need-read-branch-requires
-read-branch-requires c κs = (c .before .before .before .before .before .pre .0, (c .before .before .before .before .before .pre .1 .0, (c .before .before .before .before .before .pre .1 .1 .0, ((c .before .before .before .before .before .pre .1 .1 .1 .0), branch-at _ _ _ (c .before .before .before .before .before .pre .1 .1 .1 .1) (omega arith)))))
+read-branch-requires c κs = (
+  c .before .before .before .before .before .pre .0,
+  (
+    c .before .before .before .before .before .pre .1 .0,
+    (
+      c .before .before .before .before .before .pre .1 .1 .0,
+      (
+        (c .before .before .before .before .before .pre .1 .1 .1 .0),
+        branch-at _ _ _ (c .before .before .before .before .before .pre .1 .1 .1 .1) (omega arith),
+      ),
+    ),
+  ),
+)
 
 lead-of-requires : tie.Need-lead-of-requires
 lead-of-requires c κs = search needs
@@ -30,25 +44,61 @@ same-length : tie.Need-same-length
 same-length c = search needs
 
 returns-2 : tie.Need-returns-2
-returns-2 c = sees-fault _ _ _ _ _ _ (omega arith) (c .before .before .before .before .before .before .before .before .pre .1 .1 .1 .1) (c .before .before .before .before .before .before .before .before .pre .1 .1 .1 .0) (sym (c .before .before .before .before .before .is-at .ensures) ∙ not-false _ (c .before .before .before .before .if1 .left)) _ (c .before .before .read-branch .ensures) (sym (c .before .lead-of .ensures) ∙ c .if2 .taken)
+returns-2 c =
+    sees-fault _ _ _ _ _ _ (omega arith) (c .before .before .before .before .before .before .before .before .pre .1 .1 .1 .1)
+    (c .before .before .before .before .before .before .before .before .pre .1 .1 .1 .0)
+    (sym (c .before .before .before .before .before .is-at .ensures) ∙ not-false _ (c .before .before .before .before .if1 .left))
+    _ (c .before .before .read-branch .ensures) (sym (c .before .lead-of .ensures) ∙ c .if2 .taken)
 
 size-of-requires : tie.Need-size-of-requires
 size-of-requires c κs = search needs
 
 keep-requires : tie.Need-keep-requires
-keep-requires c κs = keep-fits _ _ _ _ _ [] (omega arith) (c .before .before .before .before .before .before .before .before .before .pre .1 .1 .1 .1) (c .before .before .before .before .before .before .before .before .before .pre .1 .1 .1 .0) (sym (c .before .before .before .before .before .before .is-at .ensures) ∙ not-false _ (c .before .before .before .before .before .if1 .left)) _ (c .before .before .before .read-branch .ensures) _ _ (c .before .before .lead-of .ensures) (c .before .if2 .left) (c .size-of .ensures) (c .before .before .before .before .before .before .before .before .before .pre .0 .allowed)
+keep-requires c κs =
+    keep-fits _ _ _ _ _ [] (omega arith)
+    (c .before .before .before .before .before .before .before .before .before .pre .1 .1 .1 .1)
+    (c .before .before .before .before .before .before .before .before .before .pre .1 .1 .1 .0)
+    (sym (c .before .before .before .before .before .before .is-at .ensures) ∙ not-false _
+    (c .before .before .before .before .before .if1 .left))
+    _ (c .before .before .before .read-branch .ensures) _ _ (c .before .before .lead-of .ensures) (c .before .if2 .left)
+    (c .size-of .ensures) (c .before .before .before .before .before .before .before .before .before .pre .0 .allowed)
 
 mul-work : tie.Need-mul-work
 mul-work c = search needs
 
 slice-write-work : tie.Need-slice-write-work
-slice-write-work c = omega (arith, (c .before .before .before .before .before .before .before .before .before .before .pre .1 .1 .1 .1), c .before .before .before .before .before .before .before .before .before .before .pre .1 .1 .0)
+slice-write-work c =
+    omega (
+      arith,
+      (c .before .before .before .before .before .before .before .before .before .before .pre .1 .1 .1 .1),
+      c .before .before .before .before .before .before .before .before .before .before .pre .1 .1 .0,
+    )
 
 same-length-2 : tie.Need-same-length-2
 same-length-2 c = search needs
 
 returns-3 : tie.Need-returns-3
-returns-3 c = sees-kept _ _ _ _ _ _ (omega arith) (c .before .before .before .before .before .before .before .before .before .before .pre .1 .1 .1 .1) (c .before .before .before .before .before .before .before .before .before .before .pre .1 .1 .1 .0) (sym (c .before .before .before .before .before .before .before .is-at .ensures) ∙ not-false _ (c .before .before .before .before .before .before .if1 .left)) _ (c .before .before .before .before .read-branch .ensures) _ _ (c .before .before .before .lead-of .ensures) (c .before .before .if2 .left) (c .before .size-of .ensures) _ (c .keep .ensures) (keep-fits _ _ _ _ _ [] (omega arith) (c .before .before .before .before .before .before .before .before .before .before .pre .1 .1 .1 .1) (c .before .before .before .before .before .before .before .before .before .before .pre .1 .1 .1 .0) (sym (c .before .before .before .before .before .before .before .is-at .ensures) ∙ not-false _ (c .before .before .before .before .before .before .if1 .left)) _ (c .before .before .before .before .read-branch .ensures) _ _ (c .before .before .before .lead-of .ensures) (c .before .before .if2 .left) (c .before .size-of .ensures) (c .before .before .before .before .before .before .before .before .before .before .pre .0 .allowed) .1) (omega (arith, (c .before .before .before .before .before .before .before .before .before .before .pre .1 .1 .1 .1), c .before .before .before .before .before .before .before .before .before .before .pre .1 .1 .0))
+returns-3 c =
+    sees-kept _ _ _ _ _ _ (omega arith)
+    (c .before .before .before .before .before .before .before .before .before .before .pre .1 .1 .1 .1)
+    (c .before .before .before .before .before .before .before .before .before .before .pre .1 .1 .1 .0)
+    (sym (c .before .before .before .before .before .before .before .is-at .ensures) ∙ not-false _
+    (c .before .before .before .before .before .before .if1 .left))
+    _ (c .before .before .before .before .read-branch .ensures) _ _ (c .before .before .before .lead-of .ensures)
+    (c .before .before .if2 .left) (c .before .size-of .ensures) _ (c .keep .ensures)
+    (keep-fits _ _ _ _ _ [] (omega arith)
+    (c .before .before .before .before .before .before .before .before .before .before .pre .1 .1 .1 .1)
+    (c .before .before .before .before .before .before .before .before .before .before .pre .1 .1 .1 .0)
+    (sym (c .before .before .before .before .before .before .before .is-at .ensures) ∙ not-false _
+    (c .before .before .before .before .before .before .if1 .left))
+    _ (c .before .before .before .before .read-branch .ensures) _ _ (c .before .before .before .lead-of .ensures)
+    (c .before .before .if2 .left) (c .before .size-of .ensures)
+    (c .before .before .before .before .before .before .before .before .before .before .pre .0 .allowed) .1)
+    (omega (
+      arith,
+      (c .before .before .before .before .before .before .before .before .before .before .pre .1 .1 .1 .1),
+      c .before .before .before .before .before .before .before .before .before .before .pre .1 .1 .0,
+    ))
 
 pub see-branch-spec : {M : Type 1} → statement M
 see-branch-spec =

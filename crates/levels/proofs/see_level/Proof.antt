@@ -18,22 +18,55 @@ loop-holds : tie.Need-loop-holds Inv-loop μ-loop
 loop-holds c = (through-first _ _ _ _ (c .before .before .pre .1 .0), omega arith)
 
 see-branch-requires : tie.Need-see-branch-requires Inv-loop μ-loop
-see-branch-requires c κs = (c .before .before .before .before .before .before .pre .0, (c .before .before .before .loop .inv .0 .known, (omega (arith, c .before .before .before .before .before .before .pre .1 .1 .0, c .before .before .before .loop .inv .0 .only .same-length), (c .before .before .before .before .before .before .pre .1 .1 .1, c .before .if1 .taken))))
+see-branch-requires c κs = (
+  c .before .before .before .before .before .before .pre .0,
+  (
+    c .before .before .before .loop .inv .0 .known,
+    (
+      omega (
+        arith,
+        c .before .before .before .before .before .before .pre .1 .1 .0,
+        c .before .before .before .loop .inv .0 .only .same-length,
+      ),
+      (c .before .before .before .before .before .before .pre .1 .1 .1, c .before .if1 .taken),
+    ),
+  ),
+)
 
 same-length : tie.Need-same-length Inv-loop μ-loop
-same-length c = through-only _ _ _ _ _ _ _ (c .before .before .before .before .before .before .before .loop .inv .0) (c .before .before .before .before .before .if1 .taken) (c .before .before .before .see-branch .ensures .1 .1) .same-length
+same-length c =
+    through-only _ _ _ _ _ _ _ (c .before .before .before .before .before .before .before .loop .inv .0)
+    (c .before .before .before .before .before .if1 .taken) (c .before .before .before .see-branch .ensures .1 .1) .same-length
 
 returns : tie.Need-returns Inv-loop μ-loop
-returns c = (sym (through-stops _ _ _ _ _ _ _ (c .before .before .before .before .before .before .before .loop .inv .0) (c .before .before .before .before .before .if1 .taken) (c .before .before .before .see-branch .ensures .1 .1) (sym (c .before .before .before .see-branch .ensures .0) ∙ not-true _ (c .if2 .taken))), (λ y. absurd (false-true y), through-only _ _ _ _ _ _ _ (c .before .before .before .before .before .before .before .loop .inv .0) (c .before .before .before .before .before .if1 .taken) (c .before .before .before .see-branch .ensures .1 .1)))
+returns c = (
+  sym
+      (through-stops _ _ _ _ _ _ _ (c .before .before .before .before .before .before .before .loop .inv .0)
+      (c .before .before .before .before .before .if1 .taken) (c .before .before .before .see-branch .ensures .1 .1)
+      (sym (c .before .before .before .see-branch .ensures .0) ∙ not-true _ (c .if2 .taken))),
+  (
+    λ y. absurd (false-true y),
+    through-only _ _ _ _ _ _ _ (c .before .before .before .before .before .before .before .loop .inv .0)
+        (c .before .before .before .before .before .if1 .taken) (c .before .before .before .see-branch .ensures .1 .1),
+  ),
+)
 
 add-i : tie.Need-add-i Inv-loop μ-loop
-add-i c = record { fits = omega (arith, c .before .before .before .before .before .if1 .taken, c .before .before .before .before .before .before .before .before .before .before .pre .0 .allowed .few-branches) }
+add-i c =
+    record
+    { fits = omega (arith, c .before .before .before .before .before .if1 .taken, c .before .before .before .before .before .before .before .before .before .before .pre .0 .allowed .few-branches) }
 
 loop-less : tie.Need-loop-less Inv-loop μ-loop
 loop-less c = omega (arith, c .before .before .before .before .before .if1 .taken)
 
 loop-again : tie.Need-loop-again Inv-loop μ-loop
-loop-again c = (through-next _ _ _ _ _ _ _ (c .before .before .before .before .before .before .before .loop .inv .0) (c .before .before .before .before .before .if1 .taken) (c .before .before .before .see-branch .ensures .1 .1) (sym (c .before .before .before .see-branch .ensures .0) ∙ not-false _ (c .if2 .left)) (c .before .before .before .see-branch .ensures .1 .0 (not-false _ (c .if2 .left))) _ (omega arith), omega (arith, c .before .before .before .before .before .if1 .taken))
+loop-again c = (
+  through-next _ _ _ _ _ _ _ (c .before .before .before .before .before .before .before .loop .inv .0)
+      (c .before .before .before .before .before .if1 .taken) (c .before .before .before .see-branch .ensures .1 .1)
+      (sym (c .before .before .before .see-branch .ensures .0) ∙ not-false _ (c .if2 .left))
+      (c .before .before .before .see-branch .ensures .1 .0 (not-false _ (c .if2 .left))) _ (omega arith),
+  omega (arith, c .before .before .before .before .before .if1 .taken),
+)
 
 same-length-2 : tie.Need-same-length-2 Inv-loop μ-loop
 same-length-2 c = c .before .before .loop .inv .0 .only .same-length
