@@ -15,13 +15,13 @@ use Rattle.cases.proofs.Cases.{split, eq?, Tri, is-less, is-equal, is-more, tri
 use Rattle.segments.specs.Segments.{segment}
 use Rattle.layout.specs.declared.Shape.{Shape}
 use Rattle.layout.specs.Layout.{reference, kindOf, cellOf, cellsOf, names, Allowed}
-use Rattle.layout.specs.Columns.{State, columns}
+use Rattle.layout.specs.Columns.{State, columns, word}
 use Rattle.layout.proofs.OffsetLaws.{names-says}
 use Rattle.layout.proofs.SizeLaws.{rowIn, row-is-right}
 use Rattle.segments.proofs.TableLaws.{below-depths}
 use Rattle.arena.proofs.RefLaws.{names-of}
 use Rattle.lookup.specs.Lookup.{namesKind}
-use Rattle.lookup.proofs.FindLaws.{kind-says, kind-is, kind-other}
+use Rattle.lookup.proofs.FindLaws.{kind-says, kind-is, kind-other, entry-word}
 use Rattle.audits.specs.Audits.{allFrom, noneFrom, isLive}
 use Rattle.audits.proofs.AllLaws.{false-true, all-on, all-stops, all-over}
 use Rattle.audits.proofs.LiveLaws.{live-says, live-is}
@@ -29,7 +29,7 @@ use Rattle.levels.specs.declared.Seen.{Seen}
 use Rattle.levels.specs.declared.Seen.the-variants.{Fault, Under}
 use Rattle.levels.specs.Levels.{onSeen, leadIn, sizeIn, fits, closed, ended, rowFrom, branchBy, seeBy, seeFrom, seeAt, isAt, branchSeen, levelSeen, levelsSeen, kept, keptAs, Known, KeptAt, OnlyAt, OnlyBranches}
 use Rattle.lookup.proofs.Meaning.{segment-low}
-use Rattle.levels.proofs.LeadLaws.{seen-lead, seen-few}
+use Rattle.levels.proofs.LeadLaws.{seen-lead, seen-few, fits-says}
 use Rattle.levels.proofs.CaseLaws.{shift-one}
 
 not-live : (z : Shape) (σ : State) (k r : ℕ) → (kindOf r ≡ k → ⊥) → isLive z σ k r ≡ false
@@ -127,13 +127,42 @@ next-bit bits low g b l small = (
 pub bits-fit : (bits low g : ℕ) → bits < 2 ^ low → low ≤ g → g < 64 → bits + 1 * 2 ^ g % 2 ^ 64 < 2 ^ 64
 bits-fit bits low g b l small = omega (arith, shift-one g small, next-bit bits low g b l small)
 
-pub low-segment : (z : Shape) → Allowed z → (t h g : ℕ) → g ≡ segment (z .bits) t h → g < 64
-low-segment z w t h g e = omega (arith, e, segment-low z w t h)
+-- THE CHILD AT HAND, by what was read of it: its leftmost entry, how many entries are below it, and its segment g
+pub record Met (z : Shape) (a : List ℕ) (t r lead k low size entry below g : ℕ) : Type 0 where
+  pub seen : seeAt z (columns z a) (suc t) (columns z a .kid r k) ≡ Under entry below
+  pub fit : fits z t (columns z a .plain lead 0) low size (columns z a .plain entry 0) below ≡ true
+  pub segment-is : g ≡ segment (z .bits) t (columns z a .plain entry 0)
+  pub not-low : low ≤ g
+  pub small : g < 64
+  pub few : below ≤ z .entries - size
 
--- the test of a child, by the words that were read
-pub fits-same : (z : Shape) (t g g′ low size h h′ s : ℕ) (b : Bool) → g ≡ g′ → h ≡ h′ → fits z t g low size h s ≡ b
-    → fits z t g′ low size h′ s ≡ b
-fits-same z t g g′ low size h h′ s b p q e = ap₂ (λ (x y : ℕ). fits z t x low size y s) (sym p) (sym q) ∙ e
+-- the words that were read are those of the columns
+pub same-fit : (z : Shape) (a : List ℕ) (t lead low size entry below first hash : ℕ) (b : Bool) → namesKind z 1 lead ≡ true
+    → namesKind z 1 entry ≡ true → first ≡ word z a lead 3 → hash ≡ word z a entry 3 → fits z t first low size hash below ≡ b
+    → fits z t (columns z a .plain lead 0) low size (columns z a .plain entry 0) below ≡ b
+same-fit z a t lead low size entry below first hash b n m p q e =
+    let f : columns z a .plain lead 0 ≡ first = entry-word z a lead 0 n (omega arith) ∙ sym p in
+    let h : columns z a .plain entry 0 ≡ hash = entry-word z a entry 0 m (omega arith) ∙ sym q in
+    ap₂ (λ (x y : ℕ). fits z t x low size y below) f h ∙ e
+
+pub child-met : (z : Shape) (a : List ℕ) → Allowed z → (t r lead k low size entry below g first hash : ℕ)
+    → seeAt z (columns z a) (suc t) (columns z a .kid r k) ≡ Under entry below → namesKind z 1 lead ≡ true
+    → first ≡ word z a lead 3 → hash ≡ word z a entry 3 → fits z t first low size hash below ≡ true
+    → g ≡ segment (z .bits) t hash → Met z a t r lead k low size entry below g
+child-met z a w t r lead k low size entry below g first hash seen n p q e d =
+    let m : namesKind z 1 entry ≡ true = seen-named z (columns z a) _ (suc t) (columns z a .kid r k) entry below seen in
+    let f = same-fit z a t lead low size entry below first hash true n m p q e in
+    let h : columns z a .plain entry 0 ≡ hash = entry-word z a entry 0 m (omega arith) ∙ sym q in
+    let says = fits-says z t (columns z a .plain lead 0) low size (columns z a .plain entry 0) below f in
+    let is : g ≡ segment (z .bits) t (columns z a .plain entry 0) = d ∙ ap (segment (z .bits) t) (sym h) in
+    record {
+      seen = seen;
+      fit = f;
+      segment-is = is;
+      not-low = omega (arith, is, says .0);
+      small = omega (arith, is, segment-low z w t (columns z a .plain entry 0));
+      few = says .2;
+    }
 
 pub bits-below : (bits low g : ℕ) → bits < 2 ^ low → low ≤ g → g < 64 → bits + 1 * 2 ^ g % 2 ^ 64 < 2 ^ (g + 1)
 bits-below bits low g b l small =
@@ -259,13 +288,13 @@ module _ (z : Shape) (a : List ℕ) (t i r : ℕ) (w : List ℕ) (q : r ≡ refe
           = live-is z (columns z a) 0 r (branch-at z i r l q) (at-says z (columns z a) t r e .0) in
           (omega (arith, few, k .few-entries), omega (arith, seen-few z (columns z a) _ t r m n live it-shows, k .few-entries))
 
-      pub sees-kept : (v : ℕ) → v ≡ keptAs m n → n < 2 ^ 32 → i < length w → Sees z a t i w true (set w i v)
-      sees-kept v h small long =
+      pub sees-kept : Allowed z → (v : ℕ) → v ≡ keptAs m n → i < length w → Sees z a t i w true (set w i v)
+      sees-kept k v h long =
           let there : seeAt z (columns z a) t (reference 0 i) ≡ Under m n
           = ap (seeAt z (columns z a) t) (sym q) ∙ it-shows in (
             sym (at-seen z (columns z a) t (reference 0 i) (at-ref true e) m n there),
             (
-              λ y k. there ∙ kept-is w i m n long small ∙ ap (λ (x : ℕ). kept (set w i x) (reference 0 i)) (sym h),
+              λ y at. there ∙ kept-is w i m n long (keep-fits k .1) ∙ ap (λ (x : ℕ). kept (set w i x) (reference 0 i)) (sym h),
               record {
                 same-length = length-set w i v;
                 not-there = λ no. absurd (false-true (sym no ∙ at-ref true e));

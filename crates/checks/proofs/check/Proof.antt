@@ -8,8 +8,10 @@ use Rattle.checks.proofs.check.Tie as tie
 
 add-if1 : tie.Need-add-if1
 add-if1 c =
-    record
-    { fits = omega (arith, c .before .before .before .pre .allowed .few-branches, c .before .before .before .pre .allowed .few-entries) }
+    record {
+      fits = omega
+          (arith, c .before .before .before .pre .allowed .few-branches, c .before .before .before .pre .allowed .few-entries);
+    }
 
 returns : tie.Need-returns
 returns c = short-work _ (c .before .before .before .before .pre) (c .if1 .taken)
@@ -21,7 +23,10 @@ same-length : tie.Need-same-length
 same-length c = c .before .before .before .is-sound .ensures .same-length
 
 returns-2 : tie.Need-returns-2
-returns-2 c = let y = c .before .before .before .is-sound .ensures .yes (c .if2 .taken) in is-sound _ _ (c .before .before .before .before .before .before .before .before .before .pre) (omega (arith, c .before .before .before .before .before .if1 .left)) (y .0) (y .1)
+returns-2 c =
+    let y = c .before .before .before .is-sound .ensures .yes (c .if2 .taken) in
+    is-sound _ _ (c .before .before .before .before .before .before .before .before .before .pre) (omega (arith, c .before .before .before .before .before .if1 .left))
+    (y .0) (y .1)
 
 clear-requires : tie.Need-clear-requires
 clear-requires c κs = (

@@ -14,8 +14,13 @@ returns c = sym (branch-none _ _ _ _ _ (sym (c .before .kid .ensures) ∙ c .if1
 
 add-see : tie.Need-add-see
 add-see c =
-    record
-    { fits = omega (arith, c .before .before .before .before .pre .1 .1 .1 .0, few-depths _ (c .before .before .before .before .pre .0 .allowed)) }
+    record {
+      fits = omega (
+        arith,
+        c .before .before .before .before .pre .1 .1 .1 .0,
+        few-depths _ (c .before .before .before .before .pre .0 .allowed),
+      );
+    }
 
 see-requires : tie.Need-see-requires
 see-requires c κs = (

@@ -1,18 +1,17 @@
 -- `levels::read_row` meets its contract: what is left of the row, from the child at hand on, comes to what the whole row comes to.
 -- Assumes nothing.
 use Prim.Native.Nat.{suc, _-_, _^_, _≤_, _<_}
-use mathlib.Core.Path.{_≡_, refl, sym, ap, _∙_}
+use mathlib.Core.Path.{_≡_, refl, sym, _∙_}
 use native.Mathlib.Omega.{arith}
 use borrow.Author.Needs.{needs}
 use borrow.Author.Tests.{not-true, not-false}
 use Rattle.layout.specs.Columns.{columns}
 use Rattle.layout.proofs.SizeLaws.{row-is-right, small}
-use Rattle.segments.specs.Segments.{segment}
 use Rattle.segments.proofs.TableLaws.{below-depths}
-use Rattle.lookup.proofs.FindLaws.{entry-word, has-part}
+use Rattle.lookup.proofs.FindLaws.{has-part}
+use Rattle.levels.specs.declared.Seen.the-variants.{Under}
 use Rattle.levels.specs.Levels.{rowFrom, seeAt}
-use Rattle.levels.proofs.LeadLaws.{fits-says}
-use Rattle.levels.proofs.StepLaws.{child-fault, child-seen, lead-named, few-depths, known-at, row-shift, bits-below, bits-fit, low-segment, fits-same, row-first, row-over, row-ends, row-fault, row-unfit, row-next}
+use Rattle.levels.proofs.StepLaws.{child-fault, child-seen, seen-named, few-depths, known-at, row-shift, bits-below, bits-fit, Met, same-fit, child-met, row-first, row-over, row-ends, row-fault, row-unfit, row-next}
 use Rattle.levels.proofs.read_row.Statement.{statement}
 use Rattle.levels.proofs.read_row.Tie as tie
 
@@ -27,6 +26,37 @@ Inv-loop a work z depth r lead first low₀ bits₀ size₀ k₀ low bits size k
 
 abbrev μ-loop : tie.MeasureT-loop
 μ-loop a work z depth r lead first low₀ bits₀ size₀ k₀ low bits size k = z .degree - k
+
+-- where the call began, and where the turn did
+abbrev begun : tie.After-size-of Inv-loop μ-loop → tie.Start Inv-loop μ-loop
+begun c = c .before .before .before .before .before .before .before .before .before .before .before .before
+
+abbrev turn : tie.After-size-of Inv-loop μ-loop → tie.At-loop Inv-loop μ-loop
+turn c = c .before .before .before .before .before .before .before .before
+
+-- what is seen of the child at hand
+seen : (c : tie.After-size-of Inv-loop μ-loop)
+    → seeAt (begun c .args .z) (columns (begun c .args .z) (begun c .args .a .now)) (suc (begun c .args .depth))
+    (columns (begun c .args .z) (begun c .args .a .now) .kid (begun c .args .r) (turn c .loop .k))
+    ≡ Under (c .before .before .lead-of .result) (c .size-of .result)
+seen c =
+    child-seen _ _ _ _ _ _ (omega arith) (c .before .before .before .see .ensures) _ _ _
+    (c .before .before .before .before .before .kid .ensures) (c .before .before .lead-of .ensures) (c .before .if3 .left)
+    (c .size-of .ensures)
+
+-- and that it fits
+abbrev sized : tie.After-segment-at Inv-loop μ-loop → tie.After-size-of Inv-loop μ-loop
+sized c = c .before .before .before .before
+
+met : (c : tie.After-segment-at Inv-loop μ-loop)
+    → Met (begun (sized c) .args .z) (begun (sized c) .args .a .now) (begun (sized c) .args .depth) (begun (sized c) .args .r)
+    (begun (sized c) .args .lead) (turn (sized c) .loop .k) (turn (sized c) .loop .low) (turn (sized c) .loop .size)
+    (c .before .before .before .before .before .before .lead-of .result) (sized c .size-of .result) (c .segment-at .result)
+met c =
+    child-met _ _ (begun (sized c) .pre .0 .allowed) _ _ _ _ _ _ _ _ _ _ _ (seen (sized c)) (begun (sized c) .pre .1 .1 .1 .1 .1)
+    (turn (sized c) .before .word .ensures) (c .before .before .before .word2 .ensures)
+    (sym (c .before .before .is-fit .ensures) ∙ not-false _ (c .before .if4 .left))
+    (c .segment-at .ensures)
 
 word-requires : tie.Need-word-requires Inv-loop μ-loop
 word-requires c κs = (c .before .before .pre .0, has-part _ _ 3 (c .before .before .pre .1 .1 .1 .1 .1) (omega arith))
@@ -54,8 +84,13 @@ returns c =
 
 add-see : tie.Need-add-see Inv-loop μ-loop
 add-see c =
-    record
-    { fits = omega (arith, c .before .before .before .before .before .before .before .before .pre .1 .1 .1 .0, few-depths _ (c .before .before .before .before .before .before .before .before .pre .0 .allowed)) }
+    record {
+      fits = omega (
+        arith,
+        c .before .before .before .before .before .before .before .before .pre .1 .1 .1 .0,
+        few-depths _ (c .before .before .before .before .before .before .before .before .pre .0 .allowed),
+      );
+    }
 
 see-requires : tie.Need-see-requires Inv-loop μ-loop
 see-requires c κs = (
@@ -82,197 +117,74 @@ size-of-requires : tie.Need-size-of-requires Inv-loop μ-loop
 size-of-requires c κs = search needs
 
 word-requires-2 : tie.Need-word-requires-2 Inv-loop μ-loop
-word-requires-2 c κs = (
-  c .before .before .before .before .before .before .before .before .before .before .before .before .pre .0,
-  has-part _ _ 3
-      (lead-named _ _ _ _ _ _ refl (c .before .before .before .see .ensures) _ (c .before .before .lead-of .ensures)
-      (c .before .if3 .left))
-      (omega arith),
-)
+word-requires-2 c κs = (begun c .pre .0, has-part _ _ 3 (seen-named _ _ _ _ _ _ _ (seen c)) (omega arith))
 
 is-fit-requires : tie.Need-is-fit-requires Inv-loop μ-loop
 is-fit-requires c κs = (
-  below-depths _
-      (row-is-right _
-      (c .before .before .before .before .before .before .before .before .before .before .before .before .before .pre .0 .allowed))
-      _ .0
-      (c .before .before .before .before .before .before .before .before .before .before .before .before .before .pre .1 .1 .1 .0),
-  (
-    row-is-right _
-        (c .before .before .before .before .before .before .before .before .before .before .before .before .before .pre .0
-        .allowed)
-        .few-bits,
-    c .before .before .before .before .before .before .before .before .before .loop .inv .4,
-  ),
+  below-depths _ (row-is-right _ (begun (c .before) .pre .0 .allowed)) _ .0 (begun (c .before) .pre .1 .1 .1 .0),
+  (row-is-right _ (begun (c .before) .pre .0 .allowed) .few-bits, turn (c .before) .loop .inv .4),
 )
 
 returns-3 : tie.Need-returns-3 Inv-loop μ-loop
 returns-3 c =
     sym
-    (c .before .before .before .before .before .before .before .before .before .before .before .loop .inv .0 ∙ row-unfit _ _ _ _
-    _ _ _ _ _ _ _ (c .before .before .before .before .before .before .before .before .before .if1 .taken)
+    (turn (c .before .before .before) .loop .inv .0 ∙ row-unfit _ _ _ _ _ _ _ _ _ _ _
+    (c .before .before .before .before .before .before .before .before .before .if1 .taken)
     (λ e. c .before .before .before .before .before .before .before .if2 .left
     (c .before .before .before .before .before .before .before .before .kid .ensures ∙ e))
-    _ _
-    (child-seen _ _ _ _ _ _ (omega arith) (c .before .before .before .before .before .before .see .ensures) _ _ _
-    (c .before .before .before .before .before .before .before .before .kid .ensures)
-    (c .before .before .before .before .before .lead-of .ensures) (c .before .before .before .before .if3 .left)
-    (c .before .before .before .size-of .ensures))
-    (fits-same _ _ _ _ _ _ _ _ _ _
-    (c .before .before .before .before .before .before .before .before .before .before .before .before .word .ensures ∙ sym
-    (entry-word _ _ _ 0
-    (c .before .before .before .before .before .before .before .before .before .before .before .before .before .before .before
-    .pre .1 .1 .1 .1 .1)
-    (omega arith)))
-    (c .before .before .word2 .ensures ∙ sym
-    (entry-word _ _ _ 0
-    (lead-named _ _ _ _ _ _ refl (c .before .before .before .before .before .before .see .ensures) _
-    (c .before .before .before .before .before .lead-of .ensures) (c .before .before .before .before .if3 .left))
-    (omega arith)))
-    (sym (c .before .is-fit .ensures) ∙ not-true _ (c .if4 .taken))))
+    _ _ (seen (c .before .before .before))
+    (same-fit _ _ _ _ _ _ _ _ _ _ _ (begun (c .before .before .before) .pre .1 .1 .1 .1 .1)
+    (seen-named _ _ _ _ _ _ _ (seen (c .before .before .before)))
+    (c .before .before .before .before .before .before .before .before .before .before .before .before .word .ensures)
+    (c .before .before .word2 .ensures) (sym (c .before .is-fit .ensures) ∙ not-true _ (c .if4 .taken))))
 
 segment-at-requires : tie.Need-segment-at-requires Inv-loop μ-loop
 segment-at-requires c κs = (
-  below-depths _
-      (row-is-right _
-      (c .before .before .before .before .before .before .before .before .before .before .before .before .before .before .before
-      .pre .0 .allowed))
-      _ .0
-      (c .before .before .before .before .before .before .before .before .before .before .before .before .before .before .before
-      .pre .1 .1 .1 .0),
-  row-is-right _
-      (c .before .before .before .before .before .before .before .before .before .before .before .before .before .before .before
-      .pre .0 .allowed)
-      .few-bits,
+  below-depths _ (row-is-right _ (begun (c .before .before .before) .pre .0 .allowed)) _ .0
+      (begun (c .before .before .before) .pre .1 .1 .1 .0),
+  row-is-right _ (begun (c .before .before .before) .pre .0 .allowed) .few-bits,
 )
 
 add-low : tie.Need-add-low Inv-loop μ-loop
-add-low c =
-    record
-    { fits = omega (arith, low-segment _ (c .before .before .before .before .before .before .before .before .before .before .before .before .before .before .before .before .pre .0 .allowed) _ _ _ (c .segment-at .ensures)) }
+add-low c = record { fits = omega (arith, met c .small) }
 
 shl-bits : tie.Need-shl-bits Inv-loop μ-loop
-shl-bits c =
-    low-segment _
-    (c .before .before .before .before .before .before .before .before .before .before .before .before .before .before .before
-    .before .pre .0 .allowed)
-    _ _ _ (c .segment-at .ensures)
+shl-bits c = met c .small
 
 add-bits : tie.Need-add-bits Inv-loop μ-loop
-add-bits c =
-    record
-    { fits = bits-fit _ _ _ (c .before .before .before .before .before .before .before .before .before .before .before .before .loop .inv .2) (rw (c .segment-at .ensures ∙ ap (segment _ _) (c .before .before .before .word2 .ensures ∙ sym (entry-word _ _ _ 0 (lead-named _ _ _ _ _ _ refl (c .before .before .before .before .before .before .before .see .ensures) _ (c .before .before .before .before .before .before .lead-of .ensures) (c .before .before .before .before .before .if3 .left)) (omega arith)))) (fits-says _ _ _ _ _ _ _ (fits-same _ _ _ _ _ _ _ _ _ _ (c .before .before .before .before .before .before .before .before .before .before .before .before .before .word .ensures ∙ sym (entry-word _ _ _ 0 (c .before .before .before .before .before .before .before .before .before .before .before .before .before .before .before .before .pre .1 .1 .1 .1 .1) (omega arith))) (c .before .before .before .word2 .ensures ∙ sym (entry-word _ _ _ 0 (lead-named _ _ _ _ _ _ refl (c .before .before .before .before .before .before .before .see .ensures) _ (c .before .before .before .before .before .before .lead-of .ensures) (c .before .before .before .before .before .if3 .left)) (omega arith))) (sym (c .before .before .is-fit .ensures) ∙ not-false _ (c .before .if4 .left))) .0)) (low-segment _ (c .before .before .before .before .before .before .before .before .before .before .before .before .before .before .before .before .pre .0 .allowed) _ _ _ (c .segment-at .ensures)) }
+add-bits c = record { fits = bits-fit _ _ _ (turn (sized c) .loop .inv .2) (met c .not-low) (met c .small) }
 
 add-size : tie.Need-add-size Inv-loop μ-loop
 add-size c =
-    record
-    { fits = omega (arith, fits-says _ _ _ _ _ _ _ (fits-same _ _ _ _ _ _ _ _ _ _ (c .before .before .before .before .before .before .before .before .before .before .before .before .before .word .ensures ∙ sym (entry-word _ _ _ 0 (c .before .before .before .before .before .before .before .before .before .before .before .before .before .before .before .before .pre .1 .1 .1 .1 .1) (omega arith))) (c .before .before .before .word2 .ensures ∙ sym (entry-word _ _ _ 0 (lead-named _ _ _ _ _ _ refl (c .before .before .before .before .before .before .before .see .ensures) _ (c .before .before .before .before .before .before .lead-of .ensures) (c .before .before .before .before .before .if3 .left)) (omega arith))) (sym (c .before .before .is-fit .ensures) ∙ not-false _ (c .before .if4 .left))) .2, c .before .before .before .before .before .before .before .before .before .before .before .before .loop .inv .4, c .before .before .before .before .before .before .before .before .before .before .before .before .before .before .before .before .pre .0 .allowed .few-entries) }
+    record {
+      fits = omega (arith, met c .few, turn (sized c) .loop .inv .4, begun (sized c) .pre .0 .allowed .few-entries);
+    }
 
 add-k : tie.Need-add-k Inv-loop μ-loop
 add-k c =
-    record
-    { fits = omega (arith, c .before .before .before .before .before .before .before .before .before .before .if1 .taken, small _ (c .before .before .before .before .before .before .before .before .before .before .before .before .before .before .before .before .pre .0 .allowed) .degree-high) }
+    record {
+      fits = omega (
+        arith,
+        c .before .before .before .before .before .before .before .before .before .before .if1 .taken,
+        small _ (begun (sized c) .pre .0 .allowed) .degree-high,
+      );
+    }
 
 loop-less : tie.Need-loop-less Inv-loop μ-loop
 loop-less c = omega (arith, c .before .before .before .before .before .before .before .before .before .before .if1 .taken)
 
 loop-again : tie.Need-loop-again Inv-loop μ-loop
 loop-again c = (
-  c .before .before .before .before .before .before .before .before .before .before .before .before .loop .inv .0 ∙ row-next
-      _ _ _ _ _ _ _ _ _ _ _ (c .before .before .before .before .before .before .before .before .before .before .if1 .taken)
+  turn (sized c) .loop .inv .0 ∙ row-next _ _ _ _ _ _ _ _ _ _ _
+      (c .before .before .before .before .before .before .before .before .before .before .if1 .taken)
       (λ e. c .before .before .before .before .before .before .before .before .if2 .left
       (c .before .before .before .before .before .before .before .before .before .kid .ensures ∙ e))
-      _ _
-      (child-seen _ _ _ _ _ _ (omega arith) (c .before .before .before .before .before .before .before .see .ensures) _ _ _
-      (c .before .before .before .before .before .before .before .before .before .kid .ensures)
-      (c .before .before .before .before .before .before .lead-of .ensures)
-      (c .before .before .before .before .before .if3 .left) (c .before .before .before .before .size-of .ensures))
-      (fits-same _ _ _ _ _ _ _ _ _ _
-      (c .before .before .before .before .before .before .before .before .before .before .before .before .before .word .ensures ∙
-      sym
-      (entry-word _ _ _ 0
-      (c .before .before .before .before .before .before .before .before .before .before .before .before .before .before .before
-      .before .pre .1 .1 .1 .1 .1)
-      (omega arith)))
-      (c .before .before .before .word2 .ensures ∙ sym
-      (entry-word _ _ _ 0
-      (lead-named _ _ _ _ _ _ refl (c .before .before .before .before .before .before .before .see .ensures) _
-      (c .before .before .before .before .before .before .lead-of .ensures)
-      (c .before .before .before .before .before .if3 .left))
-      (omega arith)))
-      (sym (c .before .before .is-fit .ensures) ∙ not-false _ (c .before .if4 .left)))
-      _
-      (c .segment-at .ensures ∙ ap (segment _ _)
-      (c .before .before .before .word2 .ensures ∙ sym
-      (entry-word _ _ _ 0
-      (lead-named _ _ _ _ _ _ refl (c .before .before .before .before .before .before .before .see .ensures) _
-      (c .before .before .before .before .before .before .lead-of .ensures)
-      (c .before .before .before .before .before .if3 .left))
-      (omega arith))))
-      ∙ row-shift _ _ _ _ _ _ _ _ _ _ _ _ _ (omega arith) (omega arith)
-      (low-segment _
-      (c .before .before .before .before .before .before .before .before .before .before .before .before .before .before .before
-      .before .pre .0 .allowed)
-      _ _ _ (c .segment-at .ensures))
-      refl,
+      _ _ (met c .seen) (met c .fit) _ (met c .segment-is) ∙ row-shift _ _ _ _ _ _ _ _ _ _ _ _ _ (omega arith) (omega arith)
+      (met c .small) refl,
   omega (arith, c .before .before .before .before .before .before .before .before .before .before .if1 .taken),
-  bits-below _ _ _
-      (c .before .before .before .before .before .before .before .before .before .before .before .before .loop .inv .2)
-      (rw
-      (c .segment-at .ensures ∙ ap (segment _ _)
-      (c .before .before .before .word2 .ensures ∙ sym
-      (entry-word _ _ _ 0
-      (lead-named _ _ _ _ _ _ refl (c .before .before .before .before .before .before .before .see .ensures) _
-      (c .before .before .before .before .before .before .lead-of .ensures)
-      (c .before .before .before .before .before .if3 .left))
-      (omega arith))))
-      (fits-says _ _ _ _ _ _ _
-      (fits-same _ _ _ _ _ _ _ _ _ _
-      (c .before .before .before .before .before .before .before .before .before .before .before .before .before .word .ensures ∙
-      sym
-      (entry-word _ _ _ 0
-      (c .before .before .before .before .before .before .before .before .before .before .before .before .before .before .before
-      .before .pre .1 .1 .1 .1 .1)
-      (omega arith)))
-      (c .before .before .before .word2 .ensures ∙ sym
-      (entry-word _ _ _ 0
-      (lead-named _ _ _ _ _ _ refl (c .before .before .before .before .before .before .before .see .ensures) _
-      (c .before .before .before .before .before .before .lead-of .ensures)
-      (c .before .before .before .before .before .if3 .left))
-      (omega arith)))
-      (sym (c .before .before .is-fit .ensures) ∙ not-false _ (c .before .if4 .left)))
-      .0))
-      (low-segment _
-      (c .before .before .before .before .before .before .before .before .before .before .before .before .before .before .before
-      .before .pre .0 .allowed)
-      _ _ _ (c .segment-at .ensures)),
-  omega (
-    arith,
-    low-segment _
-        (c .before .before .before .before .before .before .before .before .before .before .before .before .before .before
-        .before .before .pre .0 .allowed)
-        _ _ _ (c .segment-at .ensures),
-  ),
-  omega (
-    arith,
-    fits-says _ _ _ _ _ _ _
-        (fits-same _ _ _ _ _ _ _ _ _ _
-        (c .before .before .before .before .before .before .before .before .before .before .before .before .before .word .ensures
-        ∙ sym
-        (entry-word _ _ _ 0
-        (c .before .before .before .before .before .before .before .before .before .before .before .before .before .before
-        .before .before .pre .1 .1 .1 .1 .1)
-        (omega arith)))
-        (c .before .before .before .word2 .ensures ∙ sym
-        (entry-word _ _ _ 0
-        (lead-named _ _ _ _ _ _ refl (c .before .before .before .before .before .before .before .see .ensures) _
-        (c .before .before .before .before .before .before .lead-of .ensures)
-        (c .before .before .before .before .before .if3 .left))
-        (omega arith)))
-        (sym (c .before .before .is-fit .ensures) ∙ not-false _ (c .before .if4 .left)))
-        .2,
-    c .before .before .before .before .before .before .before .before .before .before .before .before .loop .inv .4,
-  ),
+  bits-below _ _ _ (turn (sized c) .loop .inv .2) (met c .not-low) (met c .small),
+  omega (arith, met c .small),
+  omega (arith, met c .few, turn (sized c) .loop .inv .4),
 )
 
 close-requires : tie.Need-close-requires Inv-loop μ-loop

@@ -85,15 +85,8 @@ returns-3 c =
     (sym (c .before .before .before .before .before .before .before .is-at .ensures) ∙ not-false _
     (c .before .before .before .before .before .before .if1 .left))
     _ (c .before .before .before .before .read-branch .ensures) _ _ (c .before .before .before .lead-of .ensures)
-    (c .before .before .if2 .left) (c .before .size-of .ensures) _ (c .keep .ensures)
-    (keep-fits _ _ _ _ _ [] (omega arith)
-    (c .before .before .before .before .before .before .before .before .before .before .pre .1 .1 .1 .1)
-    (c .before .before .before .before .before .before .before .before .before .before .pre .1 .1 .1 .0)
-    (sym (c .before .before .before .before .before .before .before .is-at .ensures) ∙ not-false _
-    (c .before .before .before .before .before .before .if1 .left))
-    _ (c .before .before .before .before .read-branch .ensures) _ _ (c .before .before .before .lead-of .ensures)
     (c .before .before .if2 .left) (c .before .size-of .ensures)
-    (c .before .before .before .before .before .before .before .before .before .before .pre .0 .allowed) .1)
+    (c .before .before .before .before .before .before .before .before .before .before .pre .0 .allowed) _ (c .keep .ensures)
     (omega (
       arith,
       (c .before .before .before .before .before .before .before .before .before .before .pre .1 .1 .1 .1),

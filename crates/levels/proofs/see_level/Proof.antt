@@ -53,8 +53,13 @@ returns c = (
 
 add-i : tie.Need-add-i Inv-loop μ-loop
 add-i c =
-    record
-    { fits = omega (arith, c .before .before .before .before .before .if1 .taken, c .before .before .before .before .before .before .before .before .before .before .pre .0 .allowed .few-branches) }
+    record {
+      fits = omega (
+        arith,
+        c .before .before .before .before .before .if1 .taken,
+        c .before .before .before .before .before .before .before .before .before .before .pre .0 .allowed .few-branches,
+      );
+    }
 
 loop-less : tie.Need-loop-less Inv-loop μ-loop
 loop-less c = omega (arith, c .before .before .before .before .before .if1 .taken)
@@ -72,7 +77,9 @@ same-length-2 : tie.Need-same-length-2 Inv-loop μ-loop
 same-length-2 c = c .before .before .loop .inv .0 .only .same-length
 
 returns-2 : tie.Need-returns-2 Inv-loop μ-loop
-returns-2 c = let e = through-all _ _ _ _ _ _ (c .before .before .loop .inv .0) (omega (arith, c .if1 .left)) in (sym (e .0), (λ y. e .1, c .before .before .loop .inv .0 .only))
+returns-2 c =
+    let e = through-all _ _ _ _ _ _ (c .before .before .loop .inv .0) (omega (arith, c .if1 .left)) in
+    (sym (e .0), (λ y. e .1, c .before .before .loop .inv .0 .only))
 
 pub see-level-spec : {M : Type 1} → statement M
 see-level-spec =
