@@ -26,13 +26,13 @@ use Rattle.arena.proofs.Unique.{shows-one}
 use Rattle.arena.proofs.Clipped.{columns-clipped}
 
 -- how often the reference q stands in a chain, in a node and among children
-abbrev inChain : ℕ → List (Item ℕ) → ℕ
+abbrev pub inChain : ℕ → List (Item ℕ) → ℕ
 inChain q xs = cells (λ c. ind q (reference 1 c)) xs
 
-abbrev inNode : ℕ → Node ℕ → ℕ
+abbrev pub inNode : ℕ → Node ℕ → ℕ
 inNode q m = total (λ c. ind q (reference 0 c)) (inChain q) m
 
-abbrev inKids : ℕ → Kids ℕ → ℕ
+abbrev pub inKids : ℕ → Kids ℕ → ℕ
 inKids q ks = totals (λ c. ind q (reference 0 c)) (inChain q) ks
 
 -- how many cells there are

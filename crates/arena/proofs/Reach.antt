@@ -18,7 +18,7 @@ use Rattle.trie.specs.Canon.{AllKids, Some, Busy, Canon, Canonical}
 use Rattle.arena.specs.Shows.{behind, ShowsChain, Shows, ShowsRow, ShowsMap}
 use Rattle.arena.specs.Sound.{top, Reached, from-slot, from-cell}
 use Rattle.arena.specs.Local.{occ, Below, Local}
-use Rattle.arena.proofs.RefLaws.{refs-inside, refs-entry}
+use Rattle.arena.proofs.RefLaws.{refs-inside, entry-refs}
 use Rattle.arena.proofs.Frames.{shown-live, shown-below}
 use Rattle.arena.proofs.LocalLaws.{live-cell, live-some, kid-live, root-live}
 
@@ -162,9 +162,7 @@ module _ (z : Shape) (σ : State) (clip : (q k : ℕ) → refs z q ≤ k → σ 
   BelowAt q k = Below (kindOf q) (σ .mark q) (kindOf (σ .kid q k)) (σ .mark (σ .kid q k))
 
   entry-one : (q k : ℕ) → kindOf q ≡ 1 → σ .kid q (suc k) ≡ 0
-  entry-one q k odd =
-      ⊎-elim (λ e. clip q (suc k) (omega arith)) (λ ne. clip q (suc k) (omega (arith, refs-entry z q (omega arith) odd)))
-      (eq? (refs z q) 0)
+  entry-one q k odd = clip q (suc k) (omega (arith, entry-refs z q odd))
 
   kid-shown : (q k : ℕ) (n : Node ℕ) (t d : ℕ) → Shows σ n t q → Within d n → t + d ≡ z .depths → (σ .kid q k ≡ 0 → ⊥)
       → Placed z σ (σ .kid q k) × BelowAt q k

@@ -53,6 +53,10 @@ refs-branch z r l e = refs-named-kind z r 0 (refs-some z r l) e ∙ kids-branch 
 pub refs-entry : (z : Shape) (r : ℕ) → 0 < refs z r → kindOf r ≡ 1 → refs z r ≡ 1
 refs-entry z r l e = refs-named-kind z r 1 (refs-some z r l) e ∙ kids-entry z 1 (λ y. omega arith)
 
+-- an entry holds one reference, its next
+pub entry-refs : (z : Shape) (r : ℕ) → kindOf r ≡ 1 → refs z r ≤ 1
+entry-refs z r odd = ⊎-elim (λ e. omega arith) (λ ne. omega (arith, refs-entry z r (omega arith) odd)) (eq? (refs z r) 0)
+
 refs-named : (z : Shape) → 0 < z .degree → (r : ℕ) → names z r ≡ true → 0 < refs z r
 refs-named z d r n = omega (arith, refs-named-kind z r (kindOf r) n refl, kids-some z d (kindOf r))
 

@@ -56,7 +56,7 @@ module _ {X Y : Type 0} (g : X → Y) where
   take-rename s none = refl
   take-rename s (kid i l ks) = cond-ap (renameKids g) (eqb i s) ks _ ∙ rw (take-rename s ks)
 
-  empty-rename : (m : Node X) → is-empty (renameNode g m) ≡ is-empty m
+  pub empty-rename : (m : Node X) → is-empty (renameNode g m) ≡ is-empty m
   unfolding is-empty renameNode renameItems
   empty-rename (leaf []) = refl
   empty-rename (leaf (x ∷ xs)) = refl

@@ -1,0 +1,89 @@
+-- Every arena that began with a format that answered 0 is sound after any public calls, refusals included; so words 10 and 11 are
+-- the numbers of the cells in use, and a check answers 0.
+use Prim.Native.Nat.{ℕ, _≤_}
+use mathlib.Core.Path.{_≡_, refl, sym, subst}
+use mathlib.Core.List.{List, _++_}
+use native.Mathlib.Omega.{arith}
+use lib.ListN.{length, getD}
+use Rattle.layout.specs.declared.Shape.{Shape}
+use Rattle.layout.specs.Header.{Header}
+use Rattle.arena.specs.Sound.{Sound}
+use Rattle.replies.specs.declared.Refusal.{Refusal}
+use Rattle.replies.specs.declared.Formatted.{Formatted}
+use Rattle.replies.specs.declared.Formatted.the-variants as F
+use Rattle.replies.specs.declared.Checked.{Checked}
+use Rattle.replies.specs.declared.Checked.the-variants as K
+use Rattle.tallies.specs.Tallies.{workWords}
+use Rattle.makes.specs.Contracts.{Formats}
+use Rattle.makes.proofs.NumberLaws.{format-numbered}
+use Rattle.checks.specs.Contracts.{Checks}
+use Rattle.checks.proofs.ExactLaws.{sound-zero}
+use Rattle.settled.specs.Cost.{Number, Reaches}
+use Rattle.promises.specs.History.{Call, formats, makes-new, shares, inserts, changes, removes, drops, sizes, uses, gets, lists, compares, checks, Meets, Calls, no-call, then, History}
+use Rattle.settled.proofs.CostLaws.{in-use}
+use Rattle.promises.proofs.AnswerLaws.{refused-same, check-is}
+
+pub format-refused : {a b : List ℕ} {g n m s : ℕ} (why : Refusal) → Formats a g n m s (F.Refused why) b → b ≡ a
+format-refused {a} {b} {g} {n} {m} {s} why w = refused-same (format-numbered a g n m s .refusal) why (w .outcome)
+
+same-sound : {a b : List ℕ} → b ≡ a → Sound a → Sound b
+same-sound e S = subst (λ (w : List ℕ). Sound w) (sym e) S
+
+format-sound : {a b : List ℕ} {g n m s : ℕ} (r : Formatted) → Formats a g n m s r b → Sound a → Sound b
+format-sound F.Done w S = w .sound refl
+format-sound (F.Refused why) w S = same-sound (format-refused why w) S
+
+pub meets-sound : (c : Call) {a b : List ℕ} → Meets c a b → Sound a → Sound b
+unfolding Meets
+meets-sound (formats g n m s r) w = format-sound r w
+meets-sound (makes-new r) w = w .sound
+meets-sound (shares e r) w = w .sound
+meets-sound (inserts e h k v r) w = w .sound
+meets-sound (changes e h k v r) w = w .sound
+meets-sound (removes e h k r) w = w .sound
+meets-sound (drops e r) w = w .sound
+meets-sound (sizes e r) w = same-sound (w .1)
+meets-sound (uses r) w = same-sound (w .1)
+meets-sound (gets e h k r) w = same-sound (w .1)
+meets-sound (lists e place out r out′) w = same-sound (w .1)
+meets-sound (compares e f r) w = same-sound (w .1)
+meets-sound (checks work r work′) w = same-sound (w .1)
+
+pub calls-sound : {a b : List ℕ} {cs : List Call} → Calls a cs b → Sound a → Sound b
+calls-sound (no-call a) S = S
+calls-sound (then a b d c cs w ws) S = calls-sound ws (meets-sound c w S)
+
+-- every arena with such a past is sound
+pub history-sound : {b : List ℕ} → History b → Sound b
+history-sound past = calls-sound (past .made) (past .format .sound refl)
+
+-- and more calls make it longer
+calls-on : {a b d : List ℕ} {cs ds : List Call} → Calls a cs b → Calls b ds d → Calls a (cs ++ ds) d
+calls-on (no-call a) more = more
+calls-on (then a b d c cs w ws) more = then a b _ c _ w (calls-on ws more)
+
+pub history-on : {a b : List ℕ} {cs : List Call} → History a → Calls a cs b → History b
+history-on past more =
+    record {
+      lent = past .lent;
+      degree = past .degree;
+      branches = past .branches;
+      entries = past .entries;
+      editions = past .editions;
+      formatted = past .formatted;
+      format = past .format;
+      calls = _;
+      made = calls-on (past .made) more;
+    }
+
+-- words 10 and 11 are the numbers of distinct cells that held editions reach
+pub history-in-use : {b : List ℕ} → History b → (z : Shape) → Header b z
+    → Number (Reaches z b 0) (getD b 10 0) × Number (Reaches z b 1) (getD b 11 0)
+history-in-use {b} past z h =
+    let S = history-sound past in
+    (in-use b S z h 0 (omega arith), in-use b S z h 1 (omega arith))
+
+-- and a check of it, with work words enough, answers 0
+pub history-check : {b w w′ : List ℕ} {r : Checked} → History b → Checks b w r w′ → (z : Shape) → Header b z → workWords z ≤ length w
+    → r ≡ K.Sound
+history-check {r = r} past c z h l = check-is r (sound-zero c z h l (history-sound past))

@@ -1,0 +1,14 @@
+pub mod AnswerLaws
+pub mod OnceLaws
+pub mod HistoryLaws
+pub mod GuardLaws
+pub mod BesideLaws
+pub mod ToldLaws
+pub mod DoneLaws
+pub mod StepLaws
+pub mod AlikeLaws
+pub mod SpendLaws
+pub mod RoomLaws
+pub mod StoryLaws
+pub mod CheatLaws
+pub mod ProgramLaws

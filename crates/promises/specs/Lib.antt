@@ -1,0 +1,4 @@
+pub mod History
+pub mod Told
+pub mod Spends
+pub mod Program
