@@ -1,22 +1,19 @@
 -- THE GUARD. Until edition e is ended, by a drop of it or by a format, no call of whatever kind alters what is found in it or listed
 -- of it: slot e holds the same named trie.
-use Prim.Native.Nat.{ℕ, _≤_}
+use Prim.Native.Nat.{ℕ}
 use mathlib.Core.Path.{_≡_, sym, ap, _∙_, subst}
 use mathlib.Core.List.{List}
 use native.Mathlib.Omega.{arith}
 use Rattle.trie.specs.Trie.{Map}
 use Rattle.tags.specs.Tags.{Odd, key1}
 use Rattle.layout.specs.declared.Shape.{Shape}
-use Rattle.layout.specs.Header.{Header, headerOf}
+use Rattle.layout.specs.Header.{Header}
 use Rattle.layout.specs.Columns.{columns}
-use Rattle.layout.proofs.HeaderLaws.{header-says}
 use Rattle.arena.specs.Sound.{Sound}
 use Rattle.arena.specs.Holds.{Holds, Shelves}
 use Rattle.arena.proofs.Equivalent.{held-slot}
 use Rattle.arena.proofs.Shelved.{slots-in, held-shelves}
-use Rattle.cells.specs.Frame.{Kept}
-use Rattle.cells.proofs.KeptLaws.{kept-refl, kept-trans, kept-header, share-kept, slots-kept}
-use Rattle.cells.proofs.SlotLaws.{free-slot-lowest}
+use Rattle.cells.proofs.KeptLaws.{kept-header}
 use Rattle.replies.specs.declared.Refusal.the-variants as Why
 use Rattle.replies.specs.declared.Formatted.{Formatted}
 use Rattle.replies.specs.declared.Formatted.the-variants as F
@@ -27,92 +24,64 @@ use Rattle.replies.specs.declared.Counted.the-variants as C
 use Rattle.replies.specs.declared.Found.{Found}
 use Rattle.replies.specs.declared.Found.the-variants as D
 use Rattle.replies.specs.Answers.{Answer, answer, refused, found, counted}
-use Rattle.replies.specs.Outcomes.{Outcome, leaves, onHeader}
-use Rattle.replies.proofs.AnswerLaws.{header-right, refused-not-done}
-use Rattle.replies.proofs.Tables.{Held, HeaderNumbered, by-free, by-held}
-use Rattle.makes.specs.Calls.{newTo, newEditionIn, shareTo, shareIn}
+use Rattle.replies.specs.Outcomes.{Outcome, leaves}
+use Rattle.replies.proofs.AnswerLaws.{refused-not-done}
+use Rattle.replies.proofs.Tables.{Held, HeaderNumbered, by-held}
 use Rattle.makes.specs.Contracts.{Formats}
-use Rattle.makes.proofs.EditionLaws.{new-at, new-none, share-at, share-none-free, share-held, share-not-held}
 use Rattle.drops.specs.Contracts.{Drops}
 use Rattle.drops.proofs.NumberLaws.{drop-numbered}
 use Rattle.looks.specs.Contracts.{Sizes, Gets, Lists}
 use Rattle.looks.proofs.NumberLaws.{size-numbered, get-numbered, list-numbered}
 use Rattle.promises.specs.History.{Call, formats, makes-new, shares, inserts, changes, removes, drops, sizes, uses, gets, lists, compares, checks, Meets, Calls, no-call, then, History, Ends, by-format, by-drop, Spared}
 use Rattle.promises.proofs.HistoryLaws.{format-refused, meets-sound, calls-sound, history-sound}
+use Rattle.promises.proofs.AnyLaws.{inside-by}
 use Rattle.promises.proofs.AnswerLaws.{refused-same, found-once, counted-once}
 
--- new edition and share write one slot, and at most a count
-module _ (z : Shape) (a : List ℕ) (wide : 3 ≤ z .stride) where
-  new-writes : Kept z a (newEditionIn z a .words)
-  unfolding newTo
-  new-writes =
-      by-free z a (λ q v. rw (new-none z a q) (kept-refl z a))
-      (λ s q n. rw (new-at z a s q) (slots-kept z a s 1 0 0 wide (free-slot-lowest z a s q .slot)))
-
-  share-writes : (e : ℕ) → Kept z a (shareIn z a e .words)
-  unfolding shareTo
-  share-writes e =
-      by-held z a e
-      (λ t w.
-      rw (share-held z a e t)
-      (by-free z a (λ q v. rw (share-none-free z a e q) (kept-refl z a))
-      (λ s q n.
-      rw (share-at z a e s q) (kept-trans (share-kept z a _) (slots-kept z _ s 1 _ _ wide (free-slot-lowest z a s q .slot))))))
-      (λ t w. rw (share-not-held z a e t) (kept-refl z a))
-
--- so that the header stays
-put-header : {a b : List ℕ} {r : Answer} {z : Shape} (f : Shape → Outcome) → Header a z
-    → leaves r b ≡ onHeader (headerOf a) (leaves (refused Why.Damaged) a) f → (3 ≤ z .stride → Kept z a (f z .words)) → Header b z
-put-header {a} {b} {z = z} f H e K =
-    let q : b ≡ f z .words = ap (λ (o : Outcome). o .words) (e ∙ header-right (headerOf a) _ f z (header-says a z .1 H)) in
-    kept-header (subst (λ (w : List ℕ). Kept z a w) (sym q) (K (H .allowed .wide))) H
-
--- the shape and, in slot e, the named trie are as before
+-- in slot e stands the named trie that stood there
 abbrev Stays : ℕ → Shape → List ℕ → List ℕ → Type 0
-Stays e z a b = Header b z × ((m : Map ℕ) → Holds z a e m → Holds z b e m)
+Stays e z a b = (m : Map ℕ) → Holds z a e m → Holds z b e m
 
-same-stays : (e : ℕ) {a b : List ℕ} (z : Shape) → b ≡ a → Header a z → Stays e z a b
-same-stays e z q H = rw q (H, λ m E. E)
+same-stays : (e : ℕ) {a b : List ℕ} (z : Shape) → b ≡ a → Stays e z a b
+same-stays e z q = rw q (λ m E. E)
 
 format-stays : (e : ℕ) {a b : List ℕ} {g n m s : ℕ} (r : Formatted) → Formats a g n m s r b → (Ends e (formats g n m s r) → ⊥)
-    → (z : Shape) → Header a z → Stays e z a b
-format-stays e {g = g} {n} {m} {s} F.Done w goes z H = absurd (goes (by-format g n m s))
-format-stays e (F.Refused why) w goes z H = same-stays e z (format-refused why w) H
+    → (z : Shape) → Stays e z a b
+format-stays e {g = g} {n} {m} {s} F.Done w goes z = absurd (goes (by-format g n m s))
+format-stays e (F.Refused why) w goes z = same-stays e z (format-refused why w)
 
 drop-stays : (e i : ℕ) {a b : List ℕ} (r : Dropped) → Sound a → Drops a i r b → (Ends e (drops i r) → ⊥)
     → (z : Shape) → Header a z → Stays e z a b
-drop-stays e i {a} (G.Refused why) S w goes z H = same-stays e z (refused-same (drop-numbered a i .refusal) why (w .outcome)) H
+drop-stays e i {a} (G.Refused why) S w goes z H = same-stays e z (refused-same (drop-numbered a i .refusal) why (w .outcome))
 drop-stays e i (G.Freed x y) S w goes z H =
     let other : e ≡ i → ⊥ = λ q. goes (subst (λ (j : ℕ). Ends e (drops j (G.Freed x y))) q (by-drop x y)) in
-    (kept-header (w .inside z H) H, λ m E. w .kept S z H e m other E)
+    λ m E. w .kept S z H e m other E
 
--- a call that does not end edition e leaves the arena's shape and, in slot e, the same named trie
-pub kept-by : (e : ℕ) (c : Call) {a b : List ℕ} → Sound a → Meets c a b → (Ends e c → ⊥) → (z : Shape) → Header a z
-    → Header b z × ((m : Map ℕ) → Holds z a e m → Holds z b e m)
+-- a call that does not end edition e leaves in slot e the same named trie
+pub kept-by : (e : ℕ) (c : Call) (a b : List ℕ) → Sound a → Meets c a b → (Ends e c → ⊥) → (z : Shape) → Header a z
+    → (m : Map ℕ) → Holds z a e m → Holds z b e m
 unfolding Meets
-kept-by e (formats g n m s r) S w goes z H = format-stays e r w goes z H
-kept-by e (makes-new r) {a} S w goes z H = (put-header _ H (w .outcome) (new-writes z a), λ m E. w .kept z H e m E)
-kept-by e (shares i r) {a} S w goes z H =
-    (put-header _ H (w .outcome) (λ wide. share-writes z a wide i), λ m E. w .kept z H e m E)
-kept-by e (inserts i h k v r) S w goes z H = (kept-header (w .inside z H) H, w .kept S z H e)
-kept-by e (changes i h k v r) S w goes z H = (kept-header (w .inside z H) H, w .kept S z H e)
-kept-by e (removes i h k r) S w goes z H = (kept-header (w .inside z H) H, w .kept S z H e)
-kept-by e (drops i r) S w goes z H = drop-stays e i r S w goes z H
-kept-by e (sizes i r) S w goes z H = same-stays e z (w .1) H
-kept-by e (uses r) S w goes z H = same-stays e z (w .1) H
-kept-by e (gets i h k r) S w goes z H = same-stays e z (w .1) H
-kept-by e (lists i place out r out′) S w goes z H = same-stays e z (w .1) H
-kept-by e (compares i f r) S w goes z H = same-stays e z (w .1) H
-kept-by e (checks work r work′) S w goes z H = same-stays e z (w .1) H
+kept-by e (formats g n m s r) a b S w goes z H = format-stays e r w goes z
+kept-by e (makes-new r) a b S w goes z H = w .kept z H e
+kept-by e (shares i r) a b S w goes z H = w .kept z H e
+kept-by e (inserts i h k v r) a b S w goes z H = w .kept S z H e
+kept-by e (changes i h k v r) a b S w goes z H = w .kept S z H e
+kept-by e (removes i h k r) a b S w goes z H = w .kept S z H e
+kept-by e (drops i r) a b S w goes z H = drop-stays e i r S w goes z H
+kept-by e (sizes i r) a b S w goes z H = same-stays e z (w .1)
+kept-by e (uses r) a b S w goes z H = same-stays e z (w .1)
+kept-by e (gets i h k r) a b S w goes z H = same-stays e z (w .1)
+kept-by e (lists i place out r out′) a b S w goes z H = same-stays e z (w .1)
+kept-by e (compares i f r) a b S w goes z H = same-stays e z (w .1)
+kept-by e (checks work r work′) a b S w goes z H = same-stays e z (w .1)
 
+-- and so do calls of which none ends it, and the arena has the shape that it had
 pub kept-through : (e : ℕ) {a b : List ℕ} {cs : List Call} → Sound a → Calls a cs b → Spared e cs → (z : Shape) → Header a z
     → Header b z × ((m : Map ℕ) → Holds z a e m → Holds z b e m)
 unfolding Spared
 kept-through e S (no-call a) spared z H = (H, λ m E. E)
 kept-through e S (then a b d c cs w ws) spared z H =
-    let (K, keeps) = kept-by e c S w (spared .0) z H in
-    let (L, on) = kept-through e (meets-sound c w S) ws (spared .1) z K in
-    (L, λ m E. on m (keeps m E))
+    let (L, on) = kept-through e (meets-sound c w S) ws (spared .1) z (kept-header (inside-by e c w (spared .0) z H) H) in
+    (L, λ m E. on m (kept-by e c a b S w (spared .0) z H m E))
 
 -- an edition that is not held is refused with 5; any other answer is of a map
 not-held : {a b : List ℕ} {When : Shape → ℕ → Type 0} {o : Outcome} → HeaderNumbered a b When o → (z : Shape) → Header a z

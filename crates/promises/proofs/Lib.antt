@@ -1,6 +1,7 @@
 pub mod AnswerLaws
 pub mod OnceLaws
 pub mod HistoryLaws
+pub mod AnyLaws
 pub mod GuardLaws
 pub mod BesideLaws
 pub mod ToldLaws

@@ -1,4 +1,5 @@
 pub mod History
+pub mod Answered
 pub mod Told
 pub mod Spends
 pub mod Program

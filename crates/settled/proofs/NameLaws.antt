@@ -19,12 +19,12 @@ use Rattle.trie.proofs.RemoveCases.{remove-not, remove-at, remove-leaf, Pressed
 use Rattle.trie.proofs.RenameNodes.{empty-rename, remove-rename}
 
 -- two supplies agree from lo on, below hi
-abbrev Agree : {X : Type 0} → (g g′ : ℕ → X) → ℕ → ℕ → Type 0
-Agree g g′ lo hi = (i : ℕ) → lo ≤ i → i < hi → g i ≡ g′ i
+abbrev SameFrom : {X : Type 0} → (g g′ : ℕ → X) → ℕ → ℕ → Type 0
+SameFrom g g′ lo hi = (i : ℕ) → lo ≤ i → i < hi → g i ≡ g′ i
 
 -- CHAINS
 module _ {X : Type 0} (f f′ : ℕ → X) (h k : ℕ) where
-  copied-same : (j : ℕ) (xs : List (Item X)) → Agree f f′ j (j + ahead h k xs) → copied f j h k xs ≡ copied f′ j h k xs
+  copied-same : (j : ℕ) (xs : List (Item X)) → SameFrom f f′ j (j + ahead h k xs) → copied f j h k xs ≡ copied f′ j h k xs
   copied-same j [] a = unfold copied in refl
   copied-same j (x ∷ xs) a =
       split (matches h k (x .entry)) (λ p. copied-hit f j h k x xs p ∙ sym (copied-hit f′ j h k x xs p))
@@ -34,12 +34,12 @@ module _ {X : Type 0} (f f′ : ℕ → X) (h k : ℕ) where
       (copied-same (suc j) xs (λ i l u. a i (omega arith) (omega (arith, more))))
       ∙ sym (copied-miss f′ j h k x xs p))
 
-  removed-same : (j : ℕ) (xs : List (Item X)) → Agree f f′ j (j + before h k xs)
+  removed-same : (j : ℕ) (xs : List (Item X)) → SameFrom f f′ j (j + before h k xs)
       → list-remove-first f j h k xs ≡ list-remove-first f′ j h k xs
   unfolding list-remove-first before
   removed-same j xs = go (find h k xs)
     where
-      go : (o : Got) → Agree f f′ j (j + ifGot o (ahead h k xs) 0)
+      go : (o : Got) → SameFrom f f′ j (j + ifGot o (ahead h k xs) 0)
           → ifGot o (copied f j h k xs) xs ≡ ifGot o (copied f′ j h k xs) xs
       go absent a = unfold ifGot in refl
       go (got v) a = unfold ifGot in (copied-same j xs (unfold ifGot in a))
@@ -47,10 +47,10 @@ module _ {X : Type 0} (f f′ : ℕ → X) (h k : ℕ) where
 -- NODES
 module _ (seg : ℕ → ℕ → ℕ) {X : Type 0} (b f b′ f′ : ℕ → X) where
   abbrev Counted : ℕ → ℕ → ℕ → Node X → Type 0
-  Counted n t h m = Agree b b′ t (t + along seg (λ c. 1) n t h m)
+  Counted n t h m = SameFrom b b′ t (t + along seg (λ c. 1) n t h m)
 
   abbrev Before : ℕ → ℕ → ℕ → ℕ → ℕ → Node X → Type 0
-  Before j n t h k m = Agree f f′ 0 (j + before h k (chain seg n t h m))
+  Before j n t h k m = SameFrom f f′ 0 (j + before h k (chain seg n t h m))
 
   -- a branch on the path counts, and then those below it
   one-down : (n t h : ℕ) (c : X) (ks : Kids X) (m : Node X) → child (seg t h) ks ≡ found m → Counted (suc n) t h (branch c ks)
@@ -62,7 +62,7 @@ module _ (seg : ℕ → ℕ → ℕ) {X : Type 0} (b f b′ f′ : ℕ → X) wh
 
   -- INSERT
   module _ (x : Entry) where
-    single-same : (c : ℕ) → Agree f f′ 0 (1 + c) → single f x ≡ single f′ x
+    single-same : (c : ℕ) → SameFrom f f′ 0 (1 + c) → single f x ≡ single f′ x
     single-same c a = ap (λ y. leaf (item y x ∷ [])) (a 0 (omega arith) (omega arith))
 
     insert-node : (n t : ℕ) (m : Node X) → Counted n t (x .hash) (insertNode seg b f n t x m)

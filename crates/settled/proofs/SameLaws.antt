@@ -65,12 +65,12 @@ module _ (σ τ : State) where
   row-same (kid s n ks) t f g h w (suc k) = row-same ks t (behind f) (behind g) (h .1) (w .1) k
 
 -- where the words of a cell end
-record Ends (z : Shape) (σ : State) : Type 0 where
+record Bounded (z : Shape) (σ : State) : Type 0 where
   no-kid : (r k : ℕ) → refs z r ≤ k → σ .kid r k ≡ 0
   no-plain : (r k : ℕ) → plainsOf (kindOf r) ≤ k → σ .plain r k ≡ 0
 
 -- a cell that shows the same has the same words
-module _ (z : Shape) (σ τ : State) (A : Ends z σ) (B : Ends z τ) where
+module _ (z : Shape) (σ τ : State) (A : Bounded z σ) (B : Bounded z τ) where
   mark-node : (n : Node ℕ) (t r : ℕ) → Shows σ n t r → Shows τ n t r → τ .mark r ≡ σ .mark r
   unfolding Shows ShowsChain
   mark-node (leaf []) t r h g = absurd h
@@ -184,7 +184,7 @@ slot-both z a b to from s (inr h) k =
     let w = map-same (columns z a) (columns z b) (h .map) (columns z a .root s) (columns z b .root s) (E .shows) (D .shows) in
     (record { held-eq = D .held ∙ sym (E .held); root-eq = w .0; size-eq = D .sized ∙ sym (E .sized) }, w .1)
 
-ends-in : (a : List ℕ) → Sound a → (z : Shape) → Header a z → Ends z (columns z a)
+ends-in : (a : List ℕ) → Sound a → (z : Shape) → Header a z → Bounded z (columns z a)
 ends-in a s z h = record { no-kid = local-in a s z h .1 .clip; no-plain = ends-plain z a }
 
 module _ (a b : List ℕ) (sa : Sound a) (sb : Sound b) (z : Shape) (ha : Header a z) (hb : Header b z)
@@ -205,8 +205,8 @@ same-cells a b sa sb z ha hb to from =
     let τ : State = columns z b in
     let I = local-in a sa z ha .1 in
     let J = local-in b sb z hb .1 in
-    let A : Ends z σ = ends-in a sa z ha in
-    let B : Ends z τ = ends-in b sb z hb in
+    let A : Bounded z σ = ends-in a sa z ha in
+    let B : Bounded z τ = ends-in b sb z hb in
     let slot : (s : ℕ) → s < z .slots → SameSlot σ τ s = λ s l. slots-both a b sa sb z ha hb to from s l .0 in
     let live : (r : ℕ) → 0 < σ .count r → Both σ τ r = live-both a b sa sb z ha hb to from in
     let back : (r : ℕ) → σ .count r ≡ 0 → τ .count r ≡ 0
