@@ -1,6 +1,6 @@
--- Each cheat that document 01 names contradicts the contracts: to refuse always, to have one fixed answer, to write nothing, to pretend
--- from the second insert on, to invent the counts, and to copy everything.
-use Prim.Native.Nat.{ℕ, zero, suc, _<_}
+-- Each cheat that document 01 names contradicts the contracts: to refuse always, to have one fixed answer, to write nothing, to invent
+-- the counts, and to copy everything. To pretend from the second insert on contradicts `every-insert` (UpdateLaws).
+use Prim.Native.Nat.{ℕ, suc, _<_}
 use mathlib.Core.Path.{_≡_, refl, sym, ap, _∙_}
 use mathlib.Core.List.{List}
 use native.Mathlib.Omega.{arith}
@@ -8,17 +8,12 @@ use Rattle.segments.specs.Segments.{segment}
 use Rattle.layout.specs.declared.Shape.{Shape}
 use Rattle.layout.specs.Header.{Header}
 use Rattle.layout.specs.Columns.{slotWord}
-use Rattle.layout.proofs.SizeLaws.{row-is-right}
-use Rattle.trie.specs.Entry.{Entry, Word64, Got, absent, got}
-use Rattle.trie.specs.Trie as T
+use Rattle.trie.specs.Entry.{Word64, absent}
 use Rattle.trie.specs.Trie.{Map, size, get}
-use Rattle.trie.specs.Canon.{Canonical}
 use Rattle.trie.specs.Cells.{Taken}
-use Rattle.trie.proofs.MapLaws.{get-insert-same, get-insert-other, get-remove-same, get-remove-other}
 use Rattle.trie.proofs.CellLaws.{insert-entries-new}
 use Rattle.arena.specs.Sound.{Sound}
 use Rattle.arena.specs.Holds.{Holds}
-use Rattle.cells.proofs.KeptLaws.{kept-header}
 use Rattle.cells.proofs.SlotLaws.{free-slot-lowest}
 use Rattle.chains.specs.Chains.{anEntry}
 use Rattle.replies.specs.declared.Refusal.the-variants as Why
@@ -29,21 +24,15 @@ use Rattle.replies.specs.declared.Updated.the-variants as W
 use Rattle.replies.specs.declared.Dropped.the-variants as G
 use Rattle.replies.specs.declared.Found.{Found}
 use Rattle.replies.specs.declared.Found.the-variants as D
-use Rattle.replies.specs.Answers.{found, updated}
-use Rattle.grants.specs.Contracts.{Step}
+use Rattle.replies.specs.Answers.{updated}
 use Rattle.updates.specs.Contracts.{Inserts}
-use Rattle.removes.specs.Contracts.{Removes}
-use Rattle.looks.specs.Calls.{valueFound}
-use Rattle.looks.specs.Contracts.{Gets}
 use Rattle.settled.specs.Cost.{Costs}
-use Rattle.promises.specs.History.{History, Meets, inserts}
+use Rattle.promises.specs.History.{Meets, inserts}
 use Rattle.promises.specs.Spends.{Spends}
 use Rattle.promises.specs.Program.{Program}
 use Rattle.settled.proofs.Numbers.{number-once}
-use Rattle.promises.proofs.AnswerLaws.{found-once}
-use Rattle.promises.proofs.HistoryLaws.{history-sound}
 use Rattle.promises.proofs.SpendLaws.{spends}
-use Rattle.promises.proofs.DoneLaws.{Done, insert-done, remove-done}
+use Rattle.promises.proofs.DoneLaws.{Done, insert-done}
 use Rattle.promises.proofs.StoryLaws.{lent, Fresh, Ready, Has, format-must, new-must, insert-must, not-held-must, get-must, remove-must, drop-must}
 
 -- THE STORY, told by a program
@@ -125,66 +114,6 @@ inserts-write {a} {b} S e h k v s x y C same =
     let U = insert-done a b S z (S .header) e h k v s x y C in
     free-slot-lowest z a s (C .lowest z (S .header) s x y refl) .not-held
     (ap (λ (w : List ℕ). slotWord z w s 0) (sym same) ∙ U .new .holds .held)
-
--- A FIRST INSERT THAT WORKS AND LATER ONES THAT PRETEND. What a map answers after an insert and after a remove, with any depths
-record Turned (seg : ℕ → ℕ → ℕ) (d h k : ℕ) (g : Got) (m m′ : Map ℕ) : Type 0 where
-  pub same : get seg d h k m′ ≡ g
-  pub other : (h′ k′ : ℕ) → ((h ≡ h′) × (k ≡ k′) → ⊥) → get seg d h′ k′ m ≡ get seg d h′ k′ m′
-
-module _ (seg : ℕ → ℕ → ℕ) (b f : ℕ → ℕ) (m m′ : Map ℕ) where
-  insert-turns : (d : ℕ) → 0 < d → (x : Entry) → Word64 x → Canonical seg Word64 d m
-      → T.updated (T.insert seg d b f x m) ≡ T.updated m′ → Turned seg d (x .hash) (x .key) (got (x .value)) m m′
-  insert-turns zero l x fits c q = absurd (omega arith)
-  insert-turns (suc d) l x fits c q =
-      let e : T.insert seg (suc d) b f x m ≡ m′ = cc in
-      record {
-        same = rw (sym e) (get-insert-same seg d Word64 b f x m fits c);
-        other = λ h k ne. rw (sym e) (sym (get-insert-other seg d Word64 b f x m h k ne fits c));
-      }
-
-  remove-turns : (d : ℕ) → 0 < d → (h k : ℕ) → Canonical seg Word64 d m
-      → T.remove seg d b f h k m ≡ T.updated m′ → Turned seg d h k absent m m′
-  remove-turns zero l h k c q = absurd (omega arith)
-  remove-turns (suc d) l h k c q =
-      record {
-        same = get-remove-same seg d Word64 b f h k m m′ q c;
-        other = λ h′ k′ ne. sym (get-remove-other seg d Word64 b f h k m m′ h′ k′ ne q c);
-      }
-
--- so is what get answers after an update
-module _ {a b : List ℕ} {e s x y : ℕ} {step : Step} (S : Sound a) (after : Header b (S .shape)) (D : Done (S .shape) a b e step s x y) where
-  told : (h k : ℕ) (g : Got) (w : Found) → valueFound g ≡ found w
-      → (0 < S .shape .depths → Turned (segment (S .shape .bits)) (S .shape .depths) h k g (D .map) (D .new .result))
-      → ((r : Found) → Gets b s h k r → r ≡ w)
-      × ((h′ k′ : ℕ) → ((h ≡ h′) × (k ≡ k′) → ⊥) → (r r′ : Found) → Gets a e h′ k′ r → Gets b s h′ k′ r′ → r ≡ r′)
-  told h k g w is turned =
-      let z = S .shape in
-      let t = turned (row-is-right z (S .header .allowed) .some-depths) in (
-        λ r R. found-once r w (R .shown z after _ (D .new .holds) ∙ ap valueFound (t .same) ∙ is),
-        λ h′ k′ ne r r′ R R′.
-            found-once r r′
-            (R .shown z (S .header) _ (D .old) ∙ ap valueFound (t .other h′ k′ ne) ∙ sym (R′ .shown z after _ (D .new .holds))),
-      )
-
--- whatever came before, the new edition has the entry and every other one of the old
-pub every-insert : {a b : List ℕ} → History a → (e h k v s x y : ℕ) → Word64 (anEntry h k v) → Inserts a e h k v (W.Edition s x y) b
-    → ((r : Found) → Gets b s h k r → r ≡ D.Value v)
-    × ((h′ k′ : ℕ) → ((h ≡ h′) × (k ≡ k′) → ⊥) → (r r′ : Found) → Gets a e h′ k′ r → Gets b s h′ k′ r′ → r ≡ r′)
-every-insert {a} {b} H e h k v s x y fits C =
-    let S = history-sound H in
-    let U = insert-done a b S (S .shape) (S .header) e h k v s x y C in
-    told S (kept-header (C .inside (S .shape) (S .header)) (S .header)) U h k (got v) (D.Value v) refl
-    (λ l. insert-turns _ _ _ (U .map) (U .new .result) _ l (anEntry h k v) fits (U .good) (U .new .makes))
-
--- and a removal leaves every other one
-pub every-removal : {a b : List ℕ} → History a → (e h k s x y : ℕ) → Removes a e h k (W.Edition s x y) b
-    → ((r : Found) → Gets b s h k r → r ≡ D.Refused Why.Absent)
-    × ((h′ k′ : ℕ) → ((h ≡ h′) × (k ≡ k′) → ⊥) → (r r′ : Found) → Gets a e h′ k′ r → Gets b s h′ k′ r′ → r ≡ r′)
-every-removal {a} {b} H e h k s x y C =
-    let S = history-sound H in
-    let U = remove-done a b S (S .shape) (S .header) e h k s x y C in
-    told S (kept-header (C .inside (S .shape) (S .header)) (S .header)) U h k absent (D.Refused Why.Absent) refl
-    (λ l. remove-turns _ _ _ (U .map) (U .new .result) _ l h k (U .good) (U .new .makes))
 
 -- INVENTED COUNTS: no other numbers count what the new edition shares with no other
 pub invented-counts : {a b : List ℕ} → Sound a → (z : Shape) → Header a z → (e h k v s x y : ℕ) → Inserts a e h k v (W.Edition s x y) b

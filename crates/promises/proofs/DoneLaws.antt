@@ -17,10 +17,10 @@ use Rattle.chains.specs.Chains.{anEntry}
 use Rattle.replies.specs.declared.Updated.the-variants.{Edition}
 use Rattle.replies.proofs.Tables.{Held, by-held}
 use Rattle.grants.specs.Contracts.{Step, NewEdition}
-use Rattle.updates.specs.Contracts.{insertStep, Inserts}
+use Rattle.updates.specs.Contracts.{insertStep, Inserts, Changes}
 use Rattle.removes.specs.Contracts.{removeStep, Removes}
 use Rattle.promises.specs.Told.{UpdateTold}
-use Rattle.promises.proofs.ToldLaws.{insert-told, remove-told}
+use Rattle.promises.proofs.ToldLaws.{insert-told, change-told, remove-told}
 
 pub record Done (z : Shape) (a b : List ℕ) (e : ℕ) (step : Step) (s branches entries : ℕ) : Type 0 where
   pub map : Map ℕ
@@ -56,6 +56,9 @@ module _ (a b : List ℕ) (S : Sound a) (z : Shape) (h : Header a z) (e : ℕ) w
 
   pub insert-done : (j k v s x y : ℕ) → Inserts a e j k v (Edition s x y) b → Done z a b e (insertStep (anEntry j k v) z) s x y
   insert-done j k v s x y U = update-done s x y (λ m fits. insert-told a S e m fits j k v (Edition s x y) b U)
+
+  pub change-done : (j k v s x y : ℕ) → Changes a e j k v (Edition s x y) b → Done z a b e (insertStep (anEntry j k v) z) s x y
+  change-done j k v s x y U = update-done s x y (λ m fits. change-told a S e m fits j k v (Edition s x y) b U)
 
   pub remove-done : (j k s x y : ℕ) → Removes a e j k (Edition s x y) b → Done z a b e (removeStep j k z) s x y
   remove-done j k s x y U = update-done s x y (λ m fits. remove-told a S e m fits j k (Edition s x y) b U)

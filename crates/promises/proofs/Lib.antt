@@ -10,6 +10,7 @@ pub mod StepLaws
 pub mod AlikeLaws
 pub mod SpendLaws
 pub mod RoomLaws
+pub mod UpdateLaws
 pub mod StoryLaws
 pub mod CheatLaws
 pub mod ProgramLaws
