@@ -45,12 +45,11 @@ use Rattle.replies.specs.declared.Found.the-variants as D
 use Rattle.replies.specs.Answers.{answer, done, formatted, made, updated}
 use Rattle.replies.specs.Outcomes.{Outcome, leaves}
 use Rattle.replies.proofs.AnswerLaws.{header-right}
-use Rattle.replies.proofs.Tables.{Held, number}
+use Rattle.replies.proofs.Tables.{AllHeld, Held, number}
 use Rattle.makes.specs.Calls.{newTo}
 use Rattle.makes.specs.Contracts.{Formats, MakesNew}
 use Rattle.makes.proofs.FormatLaws.{format-done}
 use Rattle.makes.proofs.EditionLaws.{new-at}
-use Rattle.grants.specs.Rooms.{freeCells}
 use Rattle.grants.specs.Contracts.{NewEdition}
 use Rattle.updates.specs.Contracts.{insertStep, Inserts}
 use Rattle.updates.proofs.MapLaws.{empty-branches}
@@ -77,11 +76,6 @@ fits = refl
 
 long : total ours ≤ length lent
 long = omega (arith, zeros-length 124)
-
--- so many cells are free where none is in use
-free-four : (a : List ℕ) → ((k : ℕ) → byKind a 10 k ≡ 0) → (freeCells ours a 0 ≡ 4) × (freeCells ours a 1 ≡ 4)
-unfolding freeCells cellsOf
-free-four a unused = (rw (unused 0), rw (unused 1))
 
 -- FORMAT
 pub record Fresh (a : List ℕ) : Type 0 where
@@ -162,7 +156,8 @@ module _ {a b : List ℕ} {r : Updated} (v : ℕ) (A : Ready a) (C : Inserts a 0
   insert-done : IsDone r
   insert-done =
       let h = A .header in
-      let R = insert-rooms a (A .sound) ours h 0 1 2 v empty (A .holds) (λ all. omega (arith, all 1 (omega arith), A .unheld 1 (omega arith))) r b C in
+      let room : AllHeld ours a → ⊥ = λ all. omega (arith, all 1 (omega arith), A .unheld 1 (omega arith)) in
+      let R = insert-rooms a (A .sound) ours h 0 1 2 v empty (A .holds) room r b C in
       let (s, d) =
       R .done .1 (
         omega (arith, A .unused 0, takes-branch h v (λ t. t) (λ j. j)),
@@ -206,7 +201,9 @@ module _ {a b : List ℕ} {r : Updated} (v : ℕ) (A : Ready a) (C : Inserts a 0
 pub not-held-must : {a b : List ℕ} {r : Updated} (v : ℕ) → Ready a → Inserts a 3 1 2 v r b → r ≡ W.Refused Why.NoSuchEdition
 not-held-must {a} {b} {r} v A C =
     let out : Held ours a 3 → ⊥ = λ held. omega (arith, held .1, A .unheld 3 (omega arith)) in
-    let T = insert-told a (A .sound) 3 empty (λ y head held. absurd (out (subst (λ (x : Shape). Held x a 3) (header-once a y ours head (A .header)) held))) 1 2 v r b C in
+    let none : (y : Shape) → Header a y → Held y a 3 → Holds y a 3 empty
+    = λ y head held. absurd (out (subst (λ (x : Shape). Held x a 3) (header-once a y ours head (A .header)) held)) in
+    let T = insert-told a (A .sound) 3 empty none 1 2 v r b C in
     refused-is r Why.NoSuchEdition (T .number .exactly ours (A .header) 5 .1 out)
 
 -- what the edition has, and what taking it out takes
@@ -230,9 +227,8 @@ unfolding cellsOf
 remove-must {a} {b} {r} {v} A C =
     let there = is-there v refl (first-has v (A .branch-names) (A .entry-names)) in
     let t = first-takes v (A .branch-names) (A .entry-names) in
-    let R =
-    remove-rooms a (A .sound) ours (A .header) 1 1 2 (first v (A .branch-names) (A .entry-names)) (A .holds) there
-    (λ all. omega (arith, all 2 (omega arith), A .unheld)) r b C in
+    let room : AllHeld ours a → ⊥ = λ all. omega (arith, all 2 (omega arith), A .unheld) in
+    let R = remove-rooms a (A .sound) ours (A .header) 1 1 2 _ (A .holds) there room r b C in
     let (s, d) =
     R .done .1 (
       omega (arith, used-or-free a (A .sound) ours (A .header) 0 (omega arith), ap (λ (x : Taken). x .branches) t),

@@ -63,7 +63,8 @@ listing-get seg (suc d) l m c h k = map-listing-get seg d Word64 m c h k
 module _ {a b : List ℕ} {e s x y : ℕ} {step : Shape → Step} {o : Outcome} (S : Sound a) (C : Updates a e step o (Edition s x y) b)
     (D : Done (S .shape) a b e (step (S .shape)) s x y) where
   follows : (h k : ℕ) (g : Got)
-      → (0 < S .shape .depths → Turned (segment (S .shape .bits)) (S .shape .depths) h k g (D .map) (D .new .result)) → Follows a b e s h k g
+      → (0 < S .shape .depths → Turned (segment (S .shape .bits)) (S .shape .depths) h k g (D .map) (D .new .result))
+      → Follows a b e s h k g
   unfolding size
   follows h k g turned =
       let z = S .shape in
