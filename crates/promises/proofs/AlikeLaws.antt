@@ -116,8 +116,8 @@ module _ (a : List ℕ) (S : Sound a) (z : Shape) (H : Header a z) (e : ℕ) (m 
               let p : updated (N .result) ≡ updated (N′ .result)
               = sym (N .makes)
               ∙ same .makes-same (N .branch-names) (N .entry-names) (N′ .branch-names) (N′ .entry-names) m
-              (λ i l. nb i (rw (← ap (λ (t : Taken). t .branches) (N .counts)) l))
-              (λ i l. ne i (rw (← ap (λ (t : Taken). t .entries) (N .counts)) l))
+              (λ i l. nb i (omega (arith, ap (λ (t : Taken). t .branches) (N .counts))))
+              (λ i l. ne i (omega (arith, ap (λ (t : Taken). t .entries) (N .counts))))
               ∙ N′ .makes in
               let w : N .result ≡ N′ .result = cc in
               let E : Holds z b′ s (N .result) = rw w (N′ .holds) in

@@ -1,10 +1,12 @@
 -- ON ANY WORDS, sound or not. With a right header a call that is neither a format nor a check does not answer 4, and with a wrong one
--- nothing else; and no call but a format that is done writes words 0 to 7 or words beyond the total.
-use Prim.Native.Nat.{ℕ, _≤_}
+-- nothing else; no call but a format that is done writes words 0 to 7 or words beyond the total; and a refusal other than 8 and 9 writes
+-- none.
+use Prim.Native.Nat.{ℕ, _≤_, _<_}
 use mathlib.Core.Path.{_≡_, sym, ap, _∙_, subst}
 use mathlib.Core.Bool.{true, false}
 use mathlib.Core.List.{List}
 use mathlib.Core.Logic.{_↔_}
+use native.Mathlib.Omega.{arith}
 use Rattle.layout.specs.declared.Shape.{Shape}
 use Rattle.layout.specs.Header.{Header, headerOf}
 use Rattle.layout.proofs.HeaderLaws.{header-says}
@@ -12,23 +14,20 @@ use Rattle.cells.specs.Frame.{Kept}
 use Rattle.cells.proofs.KeptLaws.{kept-refl, kept-trans, share-kept, slots-kept}
 use Rattle.cells.proofs.SlotLaws.{free-slot-lowest}
 use Rattle.replies.specs.declared.Refusal.the-variants as Why
-use Rattle.replies.specs.declared.Formatted.{Formatted}
-use Rattle.replies.specs.declared.Formatted.the-variants as F
 use Rattle.replies.specs.Answers.{Answer, refused}
 use Rattle.replies.specs.Outcomes.{Outcome, leaves, onHeader}
 use Rattle.replies.proofs.AnswerLaws.{header-right}
-use Rattle.replies.proofs.Tables.{Damaged, HeaderNumbered, by-free, by-held}
+use Rattle.replies.proofs.Tables.{Damaged, HeaderNumbered, Unaltered, by-free, by-held, number}
 use Rattle.makes.specs.Calls.{newTo, newEditionIn, shareTo, shareIn}
-use Rattle.makes.specs.Contracts.{Formats}
 use Rattle.makes.proofs.EditionLaws.{new-at, new-none, share-at, share-none-free, share-held, share-not-held}
-use Rattle.makes.proofs.NumberLaws.{new-numbered, share-numbered}
-use Rattle.updates.proofs.NumberLaws.{write-answers}
-use Rattle.removes.proofs.NumberLaws.{remove-answers}
+use Rattle.makes.proofs.NumberLaws.{format-numbered, new-numbered, share-numbered}
+use Rattle.updates.proofs.NumberLaws.{write-answers, write-unaltered}
+use Rattle.removes.proofs.NumberLaws.{remove-answers, remove-unaltered}
 use Rattle.drops.proofs.NumberLaws.{drop-numbered}
 use Rattle.looks.proofs.NumberLaws.{size-numbered, in-use-numbered, get-numbered, list-numbered, equal-numbered}
 use Rattle.promises.specs.History.{Call, formats, makes-new, shares, inserts, changes, removes, drops, sizes, uses, gets, lists, compares, checks, Meets, Ends, by-format}
 use Rattle.promises.specs.Answered.{numberIn, Plain}
-use Rattle.promises.proofs.HistoryLaws.{format-refused}
+use Rattle.promises.proofs.WriteLaws.{Writes, left, formatted, made, shared, updated, dropped, writes}
 
 -- what the table says of one answer
 by-table : {a b : List ℕ} {When : Shape → ℕ → Type 0} {o : Outcome} {r : Answer} → HeaderNumbered a b When o → r ≡ o .answer
@@ -80,27 +79,38 @@ put-inside {a} {b} {z = z} f H e K =
     let q : b ≡ f z .words = ap (λ (o : Outcome). o .words) (e ∙ header-right (headerOf a) _ f z (header-says a z .1 H)) in
     subst (λ (w : List ℕ). Kept z a w) (sym q) (K (H .allowed .wide))
 
-same-inside : {a b : List ℕ} (z : Shape) → b ≡ a → Kept z a b
-same-inside {a} z q = rw q (kept-refl z a)
-
-format-inside : (e : ℕ) {a b : List ℕ} {g n m s : ℕ} (r : Formatted) → Formats a g n m s r b → (Ends e (formats g n m s r) → ⊥)
-    → (z : Shape) → Kept z a b
-format-inside e {g = g} {n} {m} {s} F.Done w goes z = absurd (goes (by-format g n m s))
-format-inside e (F.Refused why) w goes z = same-inside z (format-refused why w)
+written-inside : (e : ℕ) {a b : List ℕ} {c : Call} → Writes a b c → (Ends e c → ⊥) → (z : Shape) → Header a z → Kept z a b
+written-inside e {a} (left c q) goes z H = rw q (kept-refl z a)
+written-inside e (formatted g n m s w) goes z H = absurd (goes (by-format g n m s))
+written-inside e {a} (made r w) goes z H = put-inside _ H (w .outcome) (new-writes z a)
+written-inside e {a} (shared i r w) goes z H = put-inside _ H (w .outcome) (λ wide. share-writes z a wide i)
+written-inside e (updated c i step o r w) goes z H = w .inside z H
+written-inside e (dropped i x y w) goes z H = w .inside z H
 
 -- a call that spares some edition is no format that is done
 pub inside-by : (e : ℕ) (c : Call) {a b : List ℕ} → Meets c a b → (Ends e c → ⊥) → (z : Shape) → Header a z → Kept z a b
-unfolding Meets
-inside-by e (formats g n m s r) w goes z H = format-inside e r w goes z
-inside-by e (makes-new r) {a} w goes z H = put-inside _ H (w .outcome) (new-writes z a)
-inside-by e (shares i r) {a} w goes z H = put-inside _ H (w .outcome) (λ wide. share-writes z a wide i)
-inside-by e (inserts i h k v r) w goes z H = w .inside z H
-inside-by e (changes i h k v r) w goes z H = w .inside z H
-inside-by e (removes i h k r) w goes z H = w .inside z H
-inside-by e (drops i r) w goes z H = w .inside z H
-inside-by e (sizes i r) w goes z H = same-inside z (w .1)
-inside-by e (uses r) w goes z H = same-inside z (w .1)
-inside-by e (gets i h k r) w goes z H = same-inside z (w .1)
-inside-by e (lists i place out r out′) w goes z H = same-inside z (w .1)
-inside-by e (compares i f r) w goes z H = same-inside z (w .1)
-inside-by e (checks work r work′) w goes z H = same-inside z (w .1)
+inside-by e c {a} {b} w = written-inside e (writes c a b w)
+
+-- REFUSALS. "A refusal .. alters nothing": on any words, but for 8 and 9, which on words that are not sound may come too late.
+still : {a b : List ℕ} {r : Answer} {o : Outcome} → (r .number ≡ 0 → ⊥) → leaves r b ≡ o → ((number o ≡ 0 → ⊥) → Unaltered a o) → b ≡ a
+still some e unaltered = ap (λ (x : Outcome). x .words) e ∙ unaltered (λ q. some (ap number e ∙ q)) .0
+
+still-below : {a b : List ℕ} {r : Answer} {o : Outcome} → (r .number ≡ 0 → ⊥) → r .number < 8 → leaves r b ≡ o
+    → ((number o ≡ 0 → ⊥) → number o < 8 → Unaltered a o) → b ≡ a
+still-below some low e unaltered = still some e (λ n. unaltered n (omega (arith, ap number e)))
+
+pub refused-still : (c : Call) (a b : List ℕ) → Meets c a b → (numberIn c ≡ 0 → ⊥) → numberIn c < 8 → b ≡ a
+unfolding Meets numberIn
+refused-still (formats g n m s r) a b w some low = still some (w .outcome) (format-numbered a g n m s .refusal)
+refused-still (makes-new r) a b w some low = still some (w .outcome) (new-numbered a .refusal)
+refused-still (shares e r) a b w some low = still some (w .outcome) (share-numbered a e .refusal)
+refused-still (inserts e h k v r) a b w some low = still-below some low (w .outcome) (write-unaltered a e h k v false)
+refused-still (changes e h k v r) a b w some low = still-below some low (w .outcome) (write-unaltered a e h k v true)
+refused-still (removes e h k r) a b w some low = still-below some low (w .outcome) (remove-unaltered a e h k)
+refused-still (drops e r) a b w some low = still some (w .outcome) (drop-numbered a e .refusal)
+refused-still (sizes e r) a b w some low = w .1
+refused-still (uses r) a b w some low = w .1
+refused-still (gets e h k r) a b w some low = w .1
+refused-still (lists e place out r out′) a b w some low = w .1
+refused-still (compares e f r) a b w some low = w .1
+refused-still (checks work r work′) a b w some low = w .1

@@ -1,7 +1,7 @@
 -- Each cheat that document 01 names contradicts the contracts: to refuse always, to have one fixed answer, to write nothing, to invent
 -- the counts, and to copy everything. To pretend from the second insert on contradicts `every-insert` (UpdateLaws).
 use Prim.Native.Nat.{ℕ, suc, _<_}
-use mathlib.Core.Path.{_≡_, refl, sym, ap, _∙_}
+use mathlib.Core.Path.{_≡_, refl, sym, ap, _∙_, subst}
 use mathlib.Core.List.{List}
 use native.Mathlib.Omega.{arith}
 use Rattle.segments.specs.Segments.{segment}
@@ -17,6 +17,7 @@ use Rattle.arena.specs.Holds.{Holds}
 use Rattle.cells.proofs.SlotLaws.{free-slot-lowest}
 use Rattle.chains.specs.Chains.{anEntry}
 use Rattle.replies.specs.declared.Refusal.the-variants as Why
+use Rattle.replies.specs.declared.Formatted.{Formatted}
 use Rattle.replies.specs.declared.Formatted.the-variants as F
 use Rattle.replies.specs.declared.Made.the-variants as M
 use Rattle.replies.specs.declared.Updated.{Updated}
@@ -25,9 +26,10 @@ use Rattle.replies.specs.declared.Dropped.the-variants as G
 use Rattle.replies.specs.declared.Found.{Found}
 use Rattle.replies.specs.declared.Found.the-variants as D
 use Rattle.replies.specs.Answers.{updated}
+use Rattle.makes.specs.Contracts.{Formats}
 use Rattle.updates.specs.Contracts.{Inserts}
 use Rattle.settled.specs.Cost.{Costs}
-use Rattle.promises.specs.History.{Meets, inserts}
+use Rattle.promises.specs.History.{makes-new, inserts, Meets, no-call, then, History}
 use Rattle.promises.specs.Spends.{Spends}
 use Rattle.promises.specs.Program.{Program}
 use Rattle.settled.proofs.Numbers.{number-once}
@@ -50,18 +52,39 @@ module _ (P : Program) where
   ready = new-must fresh (P .new-edition formatted .meets) .1
 
   -- the story's entry, with value 0 or 1
-  word : (v : ℕ) → v < 2 → Word64 (anEntry 1 2 v)
+  pub word : (v : ℕ) → v < 2 → Word64 (anEntry 1 2 v)
   word v l = record { hash-fits = omega arith; key-fits = omega arith; value-fits = omega arith }
 
   module _ (v : ℕ) (l : v < 2) where
     abbrev filled : List ℕ
     filled = P .insert made 0 1 2 v (word v l) .words
 
-    told-insert : (P .insert made 0 1 2 v (word v l) .answer ≡ W.Edition 1 1 1) × Has v filled
+    pub told-insert : (P .insert made 0 1 2 v (word v l) .answer ≡ W.Edition 1 1 1) × Has v filled
     told-insert = insert-must v ready (P .insert made 0 1 2 v (word v l) .meets)
 
     value : P .get filled 1 1 2 .answer ≡ D.Value v
     value = get-must (told-insert .1) (P .get filled 1 1 2 .meets .0)
+
+  -- the story is a history
+  pub story-past : (v : ℕ) (l : v < 2) → History (filled v l)
+  unfolding Meets
+  story-past v l =
+      record {
+        lent = lent;
+        degree = 16;
+        branches = 4;
+        entries = 4;
+        editions = 4;
+        formatted = formatted;
+        format =
+            subst (λ (r : Formatted). Formats lent 16 4 4 4 r formatted) (format-must (P .format lent 16 4 4 4 .meets) .0)
+            (P .format lent 16 4 4 4 .meets);
+        calls = _;
+        made =
+            then formatted made (filled v l) (makes-new (P .new-edition formatted .answer)) _ (P .new-edition formatted .meets)
+            (then made (filled v l) (filled v l) (inserts 0 1 2 v (P .insert made 0 1 2 v (word v l) .answer)) _
+            (P .insert made 0 1 2 v (word v l) .meets) (no-call (filled v l)));
+      }
 
   zeroth : 0 < 2
   zeroth = omega arith

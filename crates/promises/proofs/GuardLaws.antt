@@ -15,9 +15,6 @@ use Rattle.arena.proofs.Equivalent.{held-slot}
 use Rattle.arena.proofs.Shelved.{slots-in, held-shelves}
 use Rattle.cells.proofs.KeptLaws.{kept-header}
 use Rattle.replies.specs.declared.Refusal.the-variants as Why
-use Rattle.replies.specs.declared.Formatted.{Formatted}
-use Rattle.replies.specs.declared.Formatted.the-variants as F
-use Rattle.replies.specs.declared.Dropped.{Dropped}
 use Rattle.replies.specs.declared.Dropped.the-variants as G
 use Rattle.replies.specs.declared.Counted.{Counted}
 use Rattle.replies.specs.declared.Counted.the-variants as C
@@ -27,52 +24,28 @@ use Rattle.replies.specs.Answers.{Answer, answer, refused, found, counted}
 use Rattle.replies.specs.Outcomes.{Outcome, leaves}
 use Rattle.replies.proofs.AnswerLaws.{refused-not-done}
 use Rattle.replies.proofs.Tables.{Held, HeaderNumbered, by-held}
-use Rattle.makes.specs.Contracts.{Formats}
-use Rattle.drops.specs.Contracts.{Drops}
-use Rattle.drops.proofs.NumberLaws.{drop-numbered}
 use Rattle.looks.specs.Contracts.{Sizes, Gets, Lists}
 use Rattle.looks.proofs.NumberLaws.{size-numbered, get-numbered, list-numbered}
-use Rattle.promises.specs.History.{Call, formats, makes-new, shares, inserts, changes, removes, drops, sizes, uses, gets, lists, compares, checks, Meets, Calls, no-call, then, History, Ends, by-format, by-drop, Spared}
-use Rattle.promises.proofs.HistoryLaws.{format-refused, meets-sound, calls-sound, history-sound}
+use Rattle.promises.specs.History.{Call, drops, Meets, Calls, no-call, then, History, Ends, by-format, by-drop, Spared}
+use Rattle.promises.proofs.HistoryLaws.{meets-sound, calls-sound, history-sound}
+use Rattle.promises.proofs.WriteLaws.{Writes, left, formatted, made, shared, updated, dropped, writes}
 use Rattle.promises.proofs.AnyLaws.{inside-by}
-use Rattle.promises.proofs.AnswerLaws.{refused-same, found-once, counted-once}
+use Rattle.promises.proofs.AnswerLaws.{found-once, counted-once}
 
--- in slot e stands the named trie that stood there
-abbrev Stays : ℕ → Shape → List ℕ → List ℕ → Type 0
-Stays e z a b = (m : Map ℕ) → Holds z a e m → Holds z b e m
-
-same-stays : (e : ℕ) {a b : List ℕ} (z : Shape) → b ≡ a → Stays e z a b
-same-stays e z q = rw q (λ m E. E)
-
-format-stays : (e : ℕ) {a b : List ℕ} {g n m s : ℕ} (r : Formatted) → Formats a g n m s r b → (Ends e (formats g n m s r) → ⊥)
-    → (z : Shape) → Stays e z a b
-format-stays e {g = g} {n} {m} {s} F.Done w goes z = absurd (goes (by-format g n m s))
-format-stays e (F.Refused why) w goes z = same-stays e z (format-refused why w)
-
-drop-stays : (e i : ℕ) {a b : List ℕ} (r : Dropped) → Sound a → Drops a i r b → (Ends e (drops i r) → ⊥)
-    → (z : Shape) → Header a z → Stays e z a b
-drop-stays e i {a} (G.Refused why) S w goes z H = same-stays e z (refused-same (drop-numbered a i .refusal) why (w .outcome))
-drop-stays e i (G.Freed x y) S w goes z H =
-    let other : e ≡ i → ⊥ = λ q. goes (subst (λ (j : ℕ). Ends e (drops j (G.Freed x y))) q (by-drop x y)) in
-    λ m E. w .kept S z H e m other E
+written-stays : (e : ℕ) {a b : List ℕ} {c : Call} → Writes a b c → Sound a → (Ends e c → ⊥) → (z : Shape) → Header a z
+    → (m : Map ℕ) → Holds z a e m → Holds z b e m
+written-stays e (left c q) S goes z H m E = rw q E
+written-stays e (formatted g n k s w) S goes z H m E = absurd (goes (by-format g n k s))
+written-stays e (made r w) S goes z H m E = w .kept z H e m E
+written-stays e (shared i r w) S goes z H m E = w .kept z H e m E
+written-stays e (updated c i step o r w) S goes z H m E = w .kept S z H e m E
+written-stays e (dropped i x y w) S goes z H m E =
+    w .kept S z H e m (λ q. goes (subst (λ (j : ℕ). Ends e (drops j (G.Freed x y))) q (by-drop x y))) E
 
 -- a call that does not end edition e leaves in slot e the same named trie
 pub kept-by : (e : ℕ) (c : Call) (a b : List ℕ) → Sound a → Meets c a b → (Ends e c → ⊥) → (z : Shape) → Header a z
     → (m : Map ℕ) → Holds z a e m → Holds z b e m
-unfolding Meets
-kept-by e (formats g n m s r) a b S w goes z H = format-stays e r w goes z
-kept-by e (makes-new r) a b S w goes z H = w .kept z H e
-kept-by e (shares i r) a b S w goes z H = w .kept z H e
-kept-by e (inserts i h k v r) a b S w goes z H = w .kept S z H e
-kept-by e (changes i h k v r) a b S w goes z H = w .kept S z H e
-kept-by e (removes i h k r) a b S w goes z H = w .kept S z H e
-kept-by e (drops i r) a b S w goes z H = drop-stays e i r S w goes z H
-kept-by e (sizes i r) a b S w goes z H = same-stays e z (w .1)
-kept-by e (uses r) a b S w goes z H = same-stays e z (w .1)
-kept-by e (gets i h k r) a b S w goes z H = same-stays e z (w .1)
-kept-by e (lists i place out r out′) a b S w goes z H = same-stays e z (w .1)
-kept-by e (compares i f r) a b S w goes z H = same-stays e z (w .1)
-kept-by e (checks work r work′) a b S w goes z H = same-stays e z (w .1)
+kept-by e c a b S w = written-stays e (writes c a b w) S
 
 -- and so do calls of which none ends it, and the arena has the shape that it had
 pub kept-through : (e : ℕ) {a b : List ℕ} {cs : List Call} → Sound a → Calls a cs b → Spared e cs → (z : Shape) → Header a z
@@ -80,7 +53,7 @@ pub kept-through : (e : ℕ) {a b : List ℕ} {cs : List Call} → Sound a → C
 unfolding Spared
 kept-through e S (no-call a) spared z H = (H, λ m E. E)
 kept-through e S (then a b d c cs w ws) spared z H =
-    let (L, on) = kept-through e (meets-sound c w S) ws (spared .1) z (kept-header (inside-by e c w (spared .0) z H) H) in
+    let (L, on) = kept-through e (meets-sound c a b w S) ws (spared .1) z (kept-header (inside-by e c w (spared .0) z H) H) in
     (L, λ m E. on m (kept-by e c a b S w (spared .0) z H m E))
 
 -- an edition that is not held is refused with 5; any other answer is of a map

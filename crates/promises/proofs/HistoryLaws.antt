@@ -8,50 +8,31 @@ use lib.ListN.{length, getD}
 use Rattle.layout.specs.declared.Shape.{Shape}
 use Rattle.layout.specs.Header.{Header}
 use Rattle.arena.specs.Sound.{Sound}
-use Rattle.replies.specs.declared.Refusal.{Refusal}
-use Rattle.replies.specs.declared.Formatted.{Formatted}
-use Rattle.replies.specs.declared.Formatted.the-variants as F
 use Rattle.replies.specs.declared.Checked.{Checked}
 use Rattle.replies.specs.declared.Checked.the-variants as K
 use Rattle.tallies.specs.Tallies.{workWords}
-use Rattle.makes.specs.Contracts.{Formats}
-use Rattle.makes.proofs.NumberLaws.{format-numbered}
 use Rattle.checks.specs.Contracts.{Checks}
 use Rattle.checks.proofs.ExactLaws.{sound-zero}
 use Rattle.settled.specs.Cost.{Number, Reaches}
-use Rattle.promises.specs.History.{Call, formats, makes-new, shares, inserts, changes, removes, drops, sizes, uses, gets, lists, compares, checks, Meets, Calls, no-call, then, History}
+use Rattle.promises.specs.History.{Call, Meets, Calls, no-call, then, History}
 use Rattle.settled.proofs.CostLaws.{in-use}
-use Rattle.promises.proofs.AnswerLaws.{refused-same, check-is}
+use Rattle.promises.proofs.AnswerLaws.{check-is}
+use Rattle.promises.proofs.WriteLaws.{Writes, left, formatted, made, shared, updated, dropped, writes}
 
-pub format-refused : {a b : List ℕ} {g n m s : ℕ} (why : Refusal) → Formats a g n m s (F.Refused why) b → b ≡ a
-format-refused {a} {b} {g} {n} {m} {s} why w = refused-same (format-numbered a g n m s .refusal) why (w .outcome)
+written-sound : {a b : List ℕ} {c : Call} → Writes a b c → Sound a → Sound b
+written-sound (left c e) S = subst (λ (w : List ℕ). Sound w) (sym e) S
+written-sound (formatted g n m s w) S = w .sound refl
+written-sound (made r w) S = w .sound S
+written-sound (shared e r w) S = w .sound S
+written-sound (updated c e step o r w) S = w .sound S
+written-sound (dropped e x y w) S = w .sound S
 
-same-sound : {a b : List ℕ} → b ≡ a → Sound a → Sound b
-same-sound e S = subst (λ (w : List ℕ). Sound w) (sym e) S
-
-format-sound : {a b : List ℕ} {g n m s : ℕ} (r : Formatted) → Formats a g n m s r b → Sound a → Sound b
-format-sound F.Done w S = w .sound refl
-format-sound (F.Refused why) w S = same-sound (format-refused why w) S
-
-pub meets-sound : (c : Call) {a b : List ℕ} → Meets c a b → Sound a → Sound b
-unfolding Meets
-meets-sound (formats g n m s r) w = format-sound r w
-meets-sound (makes-new r) w = w .sound
-meets-sound (shares e r) w = w .sound
-meets-sound (inserts e h k v r) w = w .sound
-meets-sound (changes e h k v r) w = w .sound
-meets-sound (removes e h k r) w = w .sound
-meets-sound (drops e r) w = w .sound
-meets-sound (sizes e r) w = same-sound (w .1)
-meets-sound (uses r) w = same-sound (w .1)
-meets-sound (gets e h k r) w = same-sound (w .1)
-meets-sound (lists e place out r out′) w = same-sound (w .1)
-meets-sound (compares e f r) w = same-sound (w .1)
-meets-sound (checks work r work′) w = same-sound (w .1)
+pub meets-sound : (c : Call) (a b : List ℕ) → Meets c a b → Sound a → Sound b
+meets-sound c a b w = written-sound (writes c a b w)
 
 pub calls-sound : {a b : List ℕ} {cs : List Call} → Calls a cs b → Sound a → Sound b
 calls-sound (no-call a) S = S
-calls-sound (then a b d c cs w ws) S = calls-sound ws (meets-sound c w S)
+calls-sound (then a b d c cs w ws) S = calls-sound ws (meets-sound c a b w S)
 
 -- every arena with such a past is sound
 pub history-sound : {b : List ℕ} → History b → Sound b

@@ -1,5 +1,6 @@
 pub mod AnswerLaws
 pub mod OnceLaws
+pub mod WriteLaws
 pub mod HistoryLaws
 pub mod AnyLaws
 pub mod GuardLaws

@@ -1,8 +1,9 @@
 -- The contracts can be kept: what the calls' own definitions compute keeps them. So what is said of every program is said of something.
-use Prim.Native.Nat.{ℕ}
+use Prim.Native.Nat.{ℕ, _<_}
 use mathlib.Core.Path.{_≡_, refl, sym, ap}
 use mathlib.Core.Bool.{Bool, true, false, cond}
 use mathlib.Core.List.{List}
+use native.Mathlib.Omega.{arith}
 use lib.Dec.{leb, eqb}
 use lib.ListN.{length}
 use Rattle.cases.proofs.Cases.{split}
@@ -44,7 +45,10 @@ use Rattle.drops.specs.Calls.{freeIn, dropIn, dropOf}
 use Rattle.drops.proofs.DropLaws.{drops}
 use Rattle.looks.specs.Calls.{valueFound, rootWord, getOf}
 use Rattle.looks.proofs.LookLaws.{get-not-held, get-by, gets}
+use Rattle.promises.specs.History.{History}
 use Rattle.promises.specs.Program.{Did, Program}
+use Rattle.promises.proofs.StoryLaws.{Has}
+use Rattle.promises.proofs.CheatLaws.{told-insert, story-past}
 
 -- WHAT HOLDS IN EVERY CASE HOLDS
 module _ {A : Type 0} (P : A → Type 0) {x : A} where
@@ -156,3 +160,7 @@ a-program =
           did (leaves (getOf a e h k) a) (get-says a e h k)
           (λ r b q. (gets a e h k r (ap (λ (o : Outcome). o .answer) q), ap (λ (o : Outcome). o .words) q));
     }
+
+-- so there are histories, and one of them has put an entry in
+pub a-history : (b : List ℕ) × History b × Has 0 b
+a-history = let l : 0 < 2 = omega arith in (_, story-past a-program 0 l, told-insert a-program 0 l .1)

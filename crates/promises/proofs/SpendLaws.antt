@@ -52,6 +52,7 @@ use Rattle.promises.specs.Spends.{Spends, Rises, New, Derived}
 use Rattle.promises.specs.Told.{UpdateTold}
 use Rattle.settled.proofs.CostLaws.{one-more}
 use Rattle.promises.proofs.AnswerLaws.{refused-same}
+use Rattle.promises.proofs.WriteLaws.{format-refused}
 use Rattle.promises.proofs.StepLaws.{Unnamed, insert-unnamed, remove-unnamed}
 use Rattle.promises.proofs.BesideLaws.{drop-beside, held-before, update-beside}
 use Rattle.promises.proofs.ToldLaws.{change-told, insert-told, remove-told}
@@ -189,7 +190,7 @@ module _ (a b : List ℕ) (S : Sound a) (z : Shape) (h : Header a z) where
 pub spends : (c : Call) (a b : List ℕ) → Sound a → (z : Shape) → Header a z → Meets c a b → Spends z c a b
 unfolding Spends Meets
 spends (formats g n m s F.Done) a b S z h C = λ y j k. blank-used g n m s C y k
-spends (formats g n m s (F.Refused why)) a b S z h C = refused-same (format-numbered a g n m s .refusal) why (C .outcome)
+spends (formats g n m s (F.Refused why)) a b S z h C = format-refused why C
 spends (makes-new (M.Edition s)) a b S z h C = new-spends a b S z h s C
 spends (makes-new (M.Refused why)) a b S z h C = refused-same (new-numbered a .refusal) why (C .outcome)
 spends (shares e (M.Edition s)) a b S z h C = share-spends a b S z h e s C

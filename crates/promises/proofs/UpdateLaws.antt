@@ -10,9 +10,9 @@ use Rattle.layout.proofs.SizeLaws.{row-is-right}
 use Rattle.trie.specs.Entry.{Entry, Word64, Got, absent, got}
 use Rattle.trie.specs.Trie as T
 use Rattle.trie.specs.Trie.{Map, size, get, listing}
-use Rattle.trie.specs.Listing.{lookup}
+use Rattle.trie.specs.Listing.{lookup, Once}
 use Rattle.trie.specs.Canon.{Canonical}
-use Rattle.trie.proofs.MapLaws.{map-listing-get, get-insert-same, get-insert-other, get-remove-same, get-remove-other}
+use Rattle.trie.proofs.MapLaws.{map-listing-get, map-listing-once, get-insert-same, get-insert-other, get-remove-same, get-remove-other}
 use Rattle.arena.specs.Sound.{Sound}
 use Rattle.arena.proofs.Shelved.{held-shelves, shelf-canonical}
 use Rattle.cells.proofs.KeptLaws.{kept-header}
@@ -54,10 +54,15 @@ module _ (seg : ℕ → ℕ → ℕ) (b f : ℕ → ℕ) (m m′ : Map ℕ) wher
         other = λ h′ k′ ne. sym (get-remove-other seg d Word64 b f h k m m′ h′ k′ ne q c);
       }
 
-listing-get : (seg : ℕ → ℕ → ℕ) (d : ℕ) → 0 < d → (m : Map ℕ) → Canonical seg Word64 d m → (h k : ℕ)
-    → lookup h k (listing m) ≡ get seg d h k m
-listing-get seg zero l m c h k = absurd (omega arith)
-listing-get seg (suc d) l m c h k = map-listing-get seg d Word64 m c h k
+-- what a map lists
+record Listed (seg : ℕ → ℕ → ℕ) (d : ℕ) (m : Map ℕ) : Type 0 where
+  pub once : Once (listing m)
+  pub says : (h k : ℕ) → lookup h k (listing m) ≡ get seg d h k m
+
+map-lists : (seg : ℕ → ℕ → ℕ) (d : ℕ) → 0 < d → (m : Map ℕ) → Canonical seg Word64 d m → Listed seg d m
+map-lists seg zero l m c = absurd (omega arith)
+map-lists seg (suc d) l m c =
+    record { once = map-listing-once seg d Word64 m c; says = map-listing-get seg d Word64 m c }
 
 -- so do get and list after an update
 module _ {a b : List ℕ} {e s x y : ℕ} {step : Shape → Step} {o : Outcome} (S : Sound a) (C : Updates a e step o (Edition s x y) b)
@@ -73,7 +78,7 @@ module _ {a b : List ℕ} {e s x y : ℕ} {step : Shape → Step} {o : Outcome} 
       let after = kept-header (C .inside z (S .header)) (S .header) in
       let m = D .new .result in
       let shelved = held-shelves b (C .sound S) z after s m (D .new .holds) in
-      let good = shelf-canonical z b (after .allowed) s m shelved in
+      let list = map-lists (segment (z .bits)) (z .depths) deep m (shelf-canonical z b (after .allowed) s m shelved) in
       record {
         same = λ r R. R .shown z after m (D .new .holds) ∙ ap valueFound (t .same);
         other =
@@ -81,7 +86,9 @@ module _ {a b : List ℕ} {e s x y : ℕ} {step : Shape → Step} {o : Outcome} 
             found-once r r′
             (R .shown z (S .header) _ (D .old) ∙ ap valueFound (t .other h′ k′ ne) ∙ sym (R′ .shown z after m (D .new .holds)));
         listed = listing m;
-        shows = listing-get (segment (z .bits)) (z .depths) deep m good h k ∙ t .same;
+        once = list .once;
+        says = λ h′ k′ r R. R .shown z after m (D .new .holds) ∙ ap valueFound (sym (list .says h′ k′));
+        shows = list .says h k ∙ t .same;
         lists = λ place out r out′ L. L .shown z after m shelved;
       }
 
