@@ -1,10 +1,12 @@
 //! How many words name a cell.
 use layout::Shape;
+use layout::table;
 use layout::words;
 ghost use mathlib.Core.Path.{_≡_};
 ghost use mathlib.Core.Bool.{true};
 ghost use Prim.Native.Nat.{_-_};
 ghost use Rattle.layout.specs.Layout.{names, Lent};
+ghost use Rattle.layout.specs.Table.{tableOf};
 ghost use Rattle.cells.specs.Mirrors.{oneMore, shareWords, unshareWords};
 
 const MOST: u64 = 18446744073709551615;
@@ -30,17 +32,27 @@ pub fn less(n: u64, m: u64) -> u64
     if m < n { n - m } else { 0 }
 }
 
-// One more word will name the cell. A count that cannot rise stays: no sound arena has one.
+// One more word will name the cell, for a loop over many references: the table is that of the two kinds. A count that cannot
+// rise stays: no sound arena has one.
+pub fn share_by(a: &mut [u64], z: Shape, t: &[u64], r: u64)
+    requires { ⌜ Lent z (now a) × (now t ≡ tableOf z) ⌝ }
+    ensures { λ _. ⌜ now (a .exit) ≡ shareWords z (now (a .entry)) r ⌝ }
+{
+    if table::is_cell(z, t, r) {
+        let n = table::word(&*a, z, t, r, words::COUNT);
+        if n < MOST {
+            table::set_word(&mut *a, z, t, r, words::COUNT, n + 1);
+        }
+    }
+}
+
+// One more word will name the cell.
 pub fn share(a: &mut [u64], z: Shape, r: u64)
     requires { ⌜ Lent z (now a) ⌝ }
     ensures { λ _. ⌜ now (a .exit) ≡ shareWords z (now (a .entry)) r ⌝ }
 {
-    if words::is_cell(z, r) {
-        let n = words::word(&*a, z, r, words::COUNT);
-        if n < MOST {
-            words::set_word(&mut *a, z, r, words::COUNT, n + 1);
-        }
-    }
+    let t = table::of(z);
+    share_by(a, z, &t, r);
 }
 
 // One word fewer names the cell.

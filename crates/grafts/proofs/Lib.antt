@@ -7,3 +7,4 @@ pub mod Meaning
 pub mod ReachLaws
 pub mod KeptLaws
 pub mod StepLaws
+pub mod LoadLaws

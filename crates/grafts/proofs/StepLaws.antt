@@ -23,6 +23,7 @@ use Rattle.sparse_array.proofs.Bitmap.{shl-one, below-le}
 use Rattle.layout.specs.declared.Shape.{Shape}
 use Rattle.layout.specs.Layout.{kindOf, names, Allowed, Lent}
 use Rattle.layout.proofs.SizeLaws.{small}
+use Rattle.layout.proofs.OffsetLaws.{names-low}
 use Rattle.layout.specs.Columns.{State, word, columns}
 use Rattle.layout.proofs.ColumnLaws.{plain-in}
 use Rattle.lookup.specs.Lookup.{namesKind}
@@ -31,10 +32,12 @@ use Rattle.lookup.proofs.RowLaws.{added}
 use Rattle.lookup.proofs.Meaning.{segment-low}
 use Rattle.cells.specs.Mirrors.{Wrote, wrote, andThen, listed, taken, takenOf, takeWords, shareWords, fillBranchWords}
 use Rattle.cells.proofs.RowLaws.{row-same}
+use Rattle.cells.proofs.StepColumns.{share-none}
 use Rattle.cells.proofs.TakeLaws.{taken-cell}
 use Rattle.cells.proofs.Made.{then-on, then-over, taken-over, taken-on}
 use Rattle.grafts.specs.declared.Onward.the-variants.{Child, Missing}
-use Rattle.grafts.specs.Grafts.{kidBits, kidRow, gapAt, childOf, onwardIn, onOnward, stops, reaches, reachFrom, rowWith, rowAt, IsRow, shareRow, newBranch, putIn, putChild, putBelow, graftFrom}
+use Rattle.grafts.specs.Grafts.{kidBits, kidRow, gapAt, childOf, onwardIn, onOnward, stops, reaches, reachFrom, rowWith, rowAt, IsRow, NoneFrom, shareRow, newBranch, putIn, putChild, putBelow, graftFrom}
+use Rattle.grafts.proofs.SeenLaws.{segment-in}
 
 -- the gap that a place tells
 abbrev Gap : Place → ℕ
@@ -190,6 +193,19 @@ module _ (z : Shape) (a : List ℕ) where
   share-same f g zero e = refl
   share-same f g (suc n) e = rw (share-same f g n (λ k l. e k (omega arith)), e n (omega arith))
 
+  -- none is not counted, so that a row may end where its references do
+  pub share-up-to : (f : ℕ → ℕ) (n m : ℕ) → n ≤ m → NoneFrom n m f → shareRow z f n a ≡ shareRow z f m a
+  unfolding shareRow
+  share-up-to f n zero l none = let q : n ≡ 0 = omega arith in rw q
+  share-up-to f n (suc m) l none =
+      ⊎-elim
+      (λ e. rw e)
+      (λ ne.
+      let h : n ≤ m = omega (arith, ne) in
+      share-up-to f n m h (λ k lk hk. none k lk (omega arith))
+      ∙ sym (rw (none m h (omega arith)) (share-none z (shareRow z f m a) 0 (names-low z 0 (omega arith)))))
+      (eq? n (suc m))
+
 -- A NEW BRANCH
 module _ (z : Shape) (a : List ℕ) (t b : ℕ) (f : ℕ → ℕ) where
   pub branch-over : (r : ℕ) (w : List ℕ) → r ≡ takenOf z a 0 → w ≡ takeWords z a 0 → r ≡ 0 → wrote 0 w ≡ newBranch z a t b f
@@ -220,8 +236,8 @@ branch-same z a t b f g e =
     (eq? (takenOf z a 0) 0)
 
 -- PUT
-pub place-low : (z : Shape) (t h b s p : ℕ) → Allowed z → s ≡ segment (z .bits) t h → p ≡ below b s → p < 64
-place-low z t h b s p w es ep = omega (arith, segment-low z w t h, below-le b s)
+pub place-low : (z : Shape) (t h b s p : ℕ) → Allowed z → s ≡ segment (z .bits) t h → p ≡ below b s → p < z .degree
+place-low z t h b s p w es ep = omega (arith, segment-in z w t h, below-le b s)
 
 put-in-is : (z : Shape) (a : List ℕ) (t b s x c : ℕ) (f : ℕ → ℕ) (row w v : List ℕ)
     → below b s < length row → IsRow (z .degree) (rowWith f (below b s) (gapAt b s) 0) row

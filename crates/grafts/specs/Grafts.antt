@@ -1,12 +1,12 @@
 -- The new path of an update, on any words: document 01, "Insert at a missing child places a single entry there .. Above depth D,
 -- at another key, branches are made until the segments differ; the old entry is shared", followed through the columns of an
 -- arena. On an edition this is what the trie's own definition makes (proofs/Meaning.antt).
-use Prim.Native.Nat.{ℕ, zero, suc, _+_, _-_, _*_, _^_, _<_}
+use Prim.Native.Nat.{ℕ, zero, suc, _+_, _-_, _*_, _^_, _≤_, _<_}
 use mathlib.Core.Path.{_≡_}
 use mathlib.Core.Bool.{Bool, false, cond}
 use mathlib.Core.List.{List}
 use lib.Dec.{eqb, ltb}
-use lib.ListN.{getD}
+use lib.ListN.{length, getD}
 use Rattle.counts.specs.Counts.{upd}
 use Rattle.segments.specs.Segments.{segment}
 use Rattle.sparse_array.specs.Bitmap.{bit, below}
@@ -69,6 +69,21 @@ rowAt z σ r p g x = rowWith (kidRow z σ r) p g x
 -- the first n words of a list are those of a row
 abbrev pub IsRow : ℕ → (ℕ → ℕ) → List ℕ → Type 0
 IsRow n f w = (k : ℕ) → k < n → getD w k 0 ≡ f k
+
+-- a list of the length of every row, with nothing in it yet
+pub record Blank (w : List ℕ) : Type 0 where
+  pub long : length w ≡ 64
+  pub none : (k : ℕ) → getD w k 0 ≡ 0
+
+-- the list v is the list w, with the words of f in the places from m to n, each g places further up
+pub record Copied (f : ℕ → ℕ) (g m n : ℕ) (w v : List ℕ) : Type 0 where
+  pub within : (k : ℕ) → m ≤ k → k < n → getD v k 0 ≡ f (k - g)
+  pub before : (k : ℕ) → k < m → getD v k 0 ≡ getD w k 0
+  pub behind : (k : ℕ) → n ≤ k → getD v k 0 ≡ getD w k 0
+
+-- of the first m words of a row those from n on are 0
+abbrev pub NoneFrom : ℕ → ℕ → (ℕ → ℕ) → Type 0
+NoneFrom n m f = (k : ℕ) → n ≤ k → k < m → f k ≡ 0
 
 -- the first n references of a row are named once more
 unfoldable pub shareRow : Shape → (ℕ → ℕ) → ℕ → List ℕ → List ℕ

@@ -13,15 +13,19 @@ use cells::fill;
 use cells::free;
 use cells::shares;
 use layout::Shape;
+use layout::table;
+use layout::words;
 use lookup::links;
 use sparse_array::Place;
 ghost use mathlib.Core.Path.{_≡_};
+ghost use mathlib.Core.Bool.{true};
 ghost use Prim.Native.Nat.{_-_, _≤_, _<_};
 ghost use lib.ListN.{length};
-ghost use Rattle.layout.specs.Layout.{Lent};
+ghost use Rattle.layout.specs.Layout.{Allowed, Lent};
 ghost use Rattle.layout.specs.Columns.{columns};
+ghost use Rattle.lookup.specs.Lookup.{namesKind};
 ghost use Rattle.cells.specs.Mirrors.{Wrote, wrote, listed};
-ghost use Rattle.grafts.specs.Grafts.{stops, onwardIn, reachFrom, IsRow, rowAt, shareRow, newBranch, putChild, putBelow, graftFrom};
+ghost use Rattle.grafts.specs.Grafts.{kidRow, stops, onwardIn, reachFrom, IsRow, Copied, Blank, NoneFrom, rowAt, shareRow, newBranch, putChild, putBelow, graftFrom};
 
 // The kind of a branch cell.
 const BRANCH: u64 = 0;
@@ -92,42 +96,80 @@ pub fn extent(a: &[u64], z: Shape, hash: u64, replaced: bool, root: u64) -> Reac
     }
 }
 
-// Word `k` of a row with the children of a node, and with 0 where a child is put among them.
-fn row_word(a: &[u64], z: Shape, r: u64, at: u64, gap: u64, k: u64) -> u64
+// The children of a branch, each `gap` places further up in the row, in the places from `from` to `to`.
+fn load_part(a: &[u64], z: Shape, r: u64, gap: u64, from: u64, to: u64, row: &mut [u64])
     requires { ⌜ Lent z (now a) ⌝ }
-    requires { ⌜ gap ≤ 1 ⌝ }
-    ensures { λ v. ⌜ v ≡ rowAt z (columns z (now (a .entry))) r at gap 0 k ⌝ }
+    requires { ⌜ (namesKind z 0 r ≡ true) × (length (now row) ≡ 64) × (gap ≤ from) × (to ≤ z .degree) ⌝ }
+    ensures { λ _. ⌜ Copied (kidRow z (columns z (now (a .entry))) r) gap from to (now (row .entry)) (now (row .exit)) ⌝ }
 {
-    if k == at {
-        return 0;
-    }
-    if at < k {
-        return kids::at(a, z, r, k - gap);
-    }
-    kids::at(a, z, r, k)
-}
-
-fn load(a: &[u64], z: Shape, r: u64, at: u64, gap: u64, row: &mut [u64])
-    requires { ⌜ Lent z (now a) ⌝ }
-    requires { ⌜ (length (now row) ≡ 64) × (gap ≤ 1) ⌝ }
-    ensures { λ _. ⌜ IsRow (z .degree) (rowAt z (columns z (now (a .entry))) r at gap 0) (now (row .exit)) ⌝ }
-{
-    let mut k = 0;
-    while k < z.degree {
-        row[k as usize] = row_word(a, z, r, at, gap, k);
+    let mut k = from;
+    while k < to {
+        row[k as usize] = words::word(a, z, r, words::CHILDREN + k - gap);
         k += 1;
     }
 }
 
-// Every reference of a row is named once more.
-pub fn share_row(a: &mut [u64], z: Shape, row: &[u64])
-    requires { ⌜ Lent z (now a) ⌝ }
-    requires { ⌜ length (now row) ≡ 64 ⌝ }
-    ensures { λ _. ⌜ now (a .exit) ≡ shareRow z (listed (now (row .entry))) (z .degree) (now (a .entry)) ⌝ }
+// The children of a branch, with the place `at` left out, in a row that is all 0 before.
+fn load_branch(a: &[u64], z: Shape, r: u64, at: u64, gap: u64, row: &mut [u64])
+    requires { ⌜ Lent z (now a) × Blank (now row) ⌝ }
+    requires { ⌜ (namesKind z 0 r ≡ true) × (at < z .degree) × (gap ≤ 1) ⌝ }
+    ensures { λ _. ⌜ IsRow (z .degree) (rowAt z (columns z (now (a .entry))) r at gap 0) (now (row .exit)) ⌝ }
 {
-    let mut k = 0;
+    load_part(a, z, r, 0, 0, at, &mut *row);
+    load_part(a, z, r, gap, at + 1, z.degree, row);
+}
+
+// A row with the children of a node, and with 0 where a child is put among them. The row is all 0 before.
+fn load(a: &[u64], z: Shape, r: u64, at: u64, gap: u64, row: &mut [u64])
+    requires { ⌜ Lent z (now a) × Blank (now row) ⌝ }
+    requires { ⌜ (at < z .degree) × (gap ≤ 1) ⌝ }
+    ensures { λ _. ⌜ IsRow (z .degree) (rowAt z (columns z (now (a .entry))) r at gap 0) (now (row .exit)) ⌝ }
+{
+    if links::is_branch(z, r) {
+        load_branch(a, z, r, at, gap, row);
+        return;
+    }
+    if links::is_entry(z, r) {
+        // An entry is its own only child. Where the new one is put at its place, it goes up with the gap or is left out.
+        if at != 0 {
+            row[0] = r;
+            return;
+        }
+        if gap == 1 {
+            row[1] = r;
+        }
+    }
+}
+
+// How many words at the front of a row hold all that is not 0, so that no more need be shared: `count`, where the words
+// behind are 0, as they are on a sound arena, and else all.
+fn filled(z: Shape, count: u64, row: &[u64]) -> u64
+    requires { ⌜ Allowed z × (length (now row) ≡ 64) ⌝ }
+    ensures { λ n. ⌜ (n ≤ z .degree) × NoneFrom n (z .degree) (listed (now (row .entry))) ⌝ }
+{
+    let mut rest: u64 = 0;
+    let mut k = count;
     while k < z.degree {
-        shares::share(&mut *a, z, row[k as usize]);
+        rest = rest | row[k as usize];
+        k += 1;
+    }
+    if rest == 0 && count < z.degree {
+        count
+    } else {
+        z.degree
+    }
+}
+
+// The first `n` references of a row are named once more.
+pub fn share_row(a: &mut [u64], z: Shape, row: &[u64], n: u64)
+    requires { ⌜ Lent z (now a) ⌝ }
+    requires { ⌜ (length (now row) ≡ 64) × (n ≤ z .degree) ⌝ }
+    ensures { λ _. ⌜ now (a .exit) ≡ shareRow z (listed (now (row .entry))) n (now (a .entry)) ⌝ }
+{
+    let t = table::of(z);
+    let mut k = 0;
+    while k < n {
+        shares::share_by(&mut *a, z, &t, row[k as usize]);
         k += 1;
     }
 }
@@ -158,7 +200,8 @@ pub fn put_child(a: &mut [u64], z: Shape, hash: u64, depth: u64, r: u64, child: 
     let at = sparse_array::rank(bits, segment) as u64;
     let mut row = [0u64; 64];
     load(&*a, z, r, at, gap, &mut row);
-    share_row(&mut *a, z, &row);
+    let n = filled(z, sparse_array::size(bits) as u64 + gap, &row);
+    share_row(&mut *a, z, &row, n);
     row[at as usize] = child;
     new_branch(a, z, depth, kids::with(bits, segment, gap), &row)
 }

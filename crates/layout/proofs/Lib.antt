@@ -5,3 +5,4 @@ pub mod ColumnLaws
 pub mod HeaderLaws
 pub mod WriteLaws
 pub mod BlankLaws
+pub mod TableLaws

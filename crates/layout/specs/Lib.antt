@@ -2,3 +2,4 @@ pub mod Layout
 pub mod Header
 pub mod Columns
 pub mod Blank
+pub mod Table

@@ -8,12 +8,14 @@
 //! A caller may rely on this:
 //! - `header::read` decides, on any words, whether words 0 to 7 are right and the slice is long enough;
 //! - `header::shape` gives the shape of an arena, or says what is wrong with a degree and three sizes;
+//! - `table` answers what `words` does of the words of cells, faster where a loop asks for many;
 //! - `format::lay_out` writes every word of a formatted arena, and none behind it;
 //! - different words have different offsets, all inside the slice (proofs/OffsetLaws.antt), and a store changes one
 //!   column at one row (proofs/ColumnLaws.antt).
 
 pub mod format;
 pub mod header;
+pub mod table;
 pub mod words;
 
 // What the header says and no call but format changes: the degree with its row in the table, how many words a slot has,

@@ -55,14 +55,14 @@ pub fn cells_of(z: Shape, kind: u64) -> u64
     pick(kind, z.branches, z.entries)
 }
 
-fn width_of(z: Shape, kind: u64) -> u64
+pub fn width_of(z: Shape, kind: u64) -> u64
     requires { ⌜ Allowed z ⌝ }
     ensures { λ r. ⌜ r ≡ widthOf z kind ⌝ }
 {
     pick(kind, 3 + z.degree, 6)
 }
 
-fn at_cells(z: Shape, kind: u64) -> u64
+pub fn at_cells(z: Shape, kind: u64) -> u64
     requires { ⌜ Allowed z ⌝ }
     ensures { λ r. ⌜ r ≡ atCells z kind ⌝ }
 {

@@ -216,7 +216,7 @@ fn cut_at(a: &mut [u64], z: Shape, segment: u64, depth: u64, r: u64, at: u64) ->
     let bits = kids::bits(&*a, z, depth, r);
     let mut row = [0u64; 64];
     load(&*a, z, r, at, &mut row);
-    grafts::share_row(&mut *a, z, &row);
+    grafts::share_row(&mut *a, z, &row, z.degree);
     grafts::new_branch(a, z, depth, without(bits, segment), &row)
 }
 

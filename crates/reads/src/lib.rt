@@ -4,7 +4,7 @@
 use iter::Iter;
 use layout::Shape;
 use layout::words;
-use lookup::Looked;
+use lookup::Hit;
 ghost use mathlib.Core.Path.{_≡_};
 ghost use mathlib.Core.Bool.{true};
 ghost use Prim.Native.Nat.{_/_};
@@ -82,9 +82,9 @@ fn is_in(a: &[u64], z: Shape, root: u64, entry: u64) -> bool
 {
     let hash = words::word(a, z, entry, words::HASH);
     let key = words::word(a, z, entry, words::KEY);
-    match lookup::get(a, z, root, hash, key) {
-        Looked::Value(v) => v == words::word(a, z, entry, words::VALUE),
-        Looked::Missing => false,
+    match lookup::find(a, z, lookup::descend(a, z, root, hash), hash, key) {
+        Hit::At(r) => words::word(a, z, r, words::VALUE) == words::word(a, z, entry, words::VALUE),
+        Hit::Nowhere => false,
     }
 }
 

@@ -2,4 +2,5 @@ pub mod CaseLaws
 pub mod KeptLaws
 pub mod Meaning
 pub mod OnceLaws
+pub mod SharedLaws
 pub mod StepLaws

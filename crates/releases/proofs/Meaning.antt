@@ -3,18 +3,17 @@
 -- a branch is in hand while its children are let go, so that it stays counted once, and it is free when it holds none any more.
 use Prim.Native.Nat.{ℕ, zero, suc, _+_, _≤_, _<_}
 use mathlib.Core.Path.{_≡_, refl, sym, ap, _∙_}
-use mathlib.Core.Bool.{true, false}
+use mathlib.Core.Bool.{true}
 use mathlib.Core.List.{List}
 use mathlib.Core.Logic.{⊎-elim}
 use native.Mathlib.Omega.{arith}
 use lib.ListN.{length}
-use Rattle.cases.proofs.Cases.{split, eq?, lt?}
+use Rattle.cases.proofs.Cases.{eq?, lt?}
 use Rattle.counts.specs.Counts.{upd, ind, among}
 use Rattle.counts.proofs.CountLaws.{upd-same, upd-other, ind-same, ind-le, ind-pos, sum-mono, place-same, length-among}
 use Rattle.layout.specs.declared.Shape.{Shape}
 use Rattle.layout.specs.Layout.{kindOf, Lent}
 use Rattle.layout.specs.Columns.{State, refs, columns, setKid}
-use Rattle.layout.proofs.OffsetLaws.{names-says}
 use Rattle.arena.specs.Sound.{top}
 use Rattle.arena.specs.Local.{Local, Shrink, SameSlots}
 use Rattle.arena.specs.Steps.{onChain}
@@ -23,13 +22,13 @@ use Rattle.arena.proofs.LocalLaws.{rehand, in-hand, some-used, occ-mono}
 use Rattle.arena.proofs.Frames.{slots-refl, slots-trans, shrink-refl, shrink-trans, shrink-close, shrink-weaken}
 use Rattle.arena.proofs.Steps.{unshare-none, on-chain-at}
 use Rattle.lookup.specs.Lookup.{namesKind}
-use Rattle.lookup.proofs.FindLaws.{kind-is, kind-says, kind-other}
+use Rattle.lookup.proofs.FindLaws.{kind-is, kind-other}
 use Rattle.cells.specs.Mirrors.{takeOutWords, giveBackWords}
 use Rattle.cells.proofs.KeptLaws.{kept-lent, kept-trans, take-out-kept, give-back-kept}
 use Rattle.cells.proofs.StepColumns.{lent-degree, take-out-columns}
 use Rattle.cells.proofs.Meaning.{unshare-means, take-out-means, give-back-means}
 use Rattle.releases.specs.Releases.{lessWords, chainFrom, rowFrom, releaseFrom}
-use Rattle.releases.proofs.CaseLaws.{last-is, last-not, less-shared, chain-ends, chain-less, chain-last, place-is, place-none, release-entry, release-none, release-less, release-last}
+use Rattle.releases.proofs.CaseLaws.{none-kind, last-is, last-not, less-shared, chain-ends, chain-less, chain-last, place-is, place-none, release-entry, release-none, release-less, release-last}
 use Rattle.releases.proofs.KeptLaws.{release-kept}
 
 -- cells only went, and what was in hand beside the reference still is
@@ -38,11 +37,6 @@ pub record Released (z : Shape) (a : List ℕ) (H : ℕ → ℕ) (b : List ℕ) 
   pub local : Local z (columns z b) H free
   pub shrink : Shrink 0 (columns z a) (columns z b)
   pub slots : SameSlots (columns z a) (columns z b)
-
--- 0 names no cell
-none-kind : (z : Shape) (k r : ℕ) → r ≡ 0 → namesKind z k r ≡ false
-none-kind z k r e =
-    split (namesKind z k r) (λ t. absurd (omega (arith, names-says z r (kind-says z k r t .0)))) (λ f. f)
 
 -- nothing is done where nothing is in hand, and a cell that more words name is named by one fewer
 module _ {z : Shape} {a : List ℕ} {free : ℕ → List ℕ} (r : ℕ) (H : ℕ → ℕ) (l : Lent z a)

@@ -1,7 +1,8 @@
 -- What a release does to the words, on any words: document 01, "Drop frees the slot and every cell no longer reached." What it means
 -- on a sound arena is in proofs/Meaning.antt, and that it enters no cell twice, on any words, in proofs/OnceLaws.antt.
 use Prim.Native.Nat.{ℕ, zero, suc}
-use mathlib.Core.Bool.{Bool, false, cond}
+use mathlib.Core.Path.{_≡_}
+use mathlib.Core.Bool.{Bool, true, false, cond}
 use mathlib.Core.List.{List}
 use lib.Dec.{eqb, ltb}
 use Rattle.layout.specs.declared.Shape.{Shape}
@@ -32,6 +33,10 @@ rowFrom release z r zero a = a
 rowFrom release z r (suc n) a =
     let w = rowFrom release z r n a in release (columns z w .kid r n) (takeOutWords z w r n)
 
+-- whatever words a row began with, where a is what it comes to up to the place m, b is what it comes to up to n
+abbrev pub RowGoesOn : (ℕ → List ℕ → List ℕ) → Shape → ℕ → ℕ → ℕ → List ℕ → List ℕ → Type 0
+RowGoesOn release z r m n a b = (w : List ℕ) → a ≡ rowFrom release z r m w → b ≡ rowFrom release z r n w
+
 -- a branch whose depth is its place
 unfoldable pub atPlace : Shape → State → ℕ → ℕ → Bool
 atPlace z σ t r = cond (namesKind z 0 r) (eqb (σ .mark r) t) false
@@ -44,3 +49,10 @@ releaseFrom z (suc n) t r a =
     (cond (atPlace z (columns z a) t r)
     (cond (isLast z a r) (giveBackWords z (rowFrom (releaseFrom z n (suc t)) z r (z .degree) a) r) (lessWords z a r))
     a)
+
+-- SHARED: the release of r comes to a cell, an entry or a branch at its place, and other words name that cell too
+abbrev pub comesTo : Shape → State → ℕ → ℕ → ℕ → Bool
+comesTo z σ n t r = cond (namesKind z 1 r) true (cond (ltb 0 n) (atPlace z σ t r) false)
+
+unfoldable pub isShared : Shape → State → ℕ → ℕ → ℕ → Bool
+isShared z σ n t r = cond (comesTo z σ n t r) (ltb 1 (σ .count r)) false

@@ -1,3 +1,4 @@
 pub mod IndexLaws
 pub mod SegmentLaws
 pub mod TableLaws
+pub mod RowLaws

@@ -13,7 +13,7 @@
 //! fit their branch and determine a hash, and those in proofs/IndexLaws.antt which depths have a segment.
 
 ghost use mathlib.Core.Path.{_≡_};
-ghost use Prim.Native.Nat.{_*_, _≤_, _<_};
+ghost use Prim.Native.Nat.{_*_, _/_, _%_, _^_, _≤_, _<_};
 ghost use Rattle.segments.specs.Segments.{segment, rowOf, indexOf};
 
 // The row of a degree: the bits of a segment, the depths at which branches stand, and the bits that are left
@@ -30,24 +30,38 @@ pub enum Index {
     NoSuchDegree,
 }
 
-// A row of the table, so that the table below reads as one.
-fn row(bits: u64, depths: u64, last: u64) -> DegreeRow
-    ensures { λ r. ⌜ r ≡ DegreeRow.Found bits depths last ⌝ }
+// The columns of the table, a byte for each row: that of the row with so many bits stands above as many other bytes.
+const DEPTHS: u64 = 0x0B_0D_10_16_20_40_00;
+
+const LAST_BITS: u64 = 0x04_04_04_01_02_01_00;
+
+// The byte of a column that belongs to a row.
+fn column(bytes: u64, bits: u64) -> u64
+    requires { ⌜ bits ≤ 6 ⌝ }
+    ensures { λ r. ⌜ r ≡ bytes / 2 ^ (8 * bits) % 256 ⌝ }
 {
-    DegreeRow::Found { bits, depths, last }
+    (bytes >> (8 * bits)) % 256
 }
 
+// A degree of the table is a power of two whose exponent is its bits. Every call reads the header and so comes here, which is
+// why the row is computed and not searched for.
 pub fn degree_row(degree: u64) -> DegreeRow
     ensures { λ r. ⌜ r ≡ rowOf degree ⌝ }
 {
-    match degree {
-        2 => row(1, 64, 1),
-        4 => row(2, 32, 2),
-        8 => row(3, 22, 1),
-        16 => row(4, 16, 4),
-        32 => row(5, 13, 4),
-        64 => row(6, 11, 4),
-        _ => DegreeRow::NotInTable,
+    let bits = u64::trailing_zeros(degree) as u64;
+    if bits == 0 {
+        return DegreeRow::NotInTable;
+    }
+    if 6 < bits {
+        return DegreeRow::NotInTable;
+    }
+    if degree != 1u64 << bits {
+        return DegreeRow::NotInTable;
+    }
+    DegreeRow::Found {
+        bits,
+        depths: column(DEPTHS, bits),
+        last: column(LAST_BITS, bits),
     }
 }
 

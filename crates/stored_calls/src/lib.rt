@@ -1,127 +1,46 @@
 //! A call of the stored answers, made on the shelf: what it answers, as document 01's number and three values. A layer of the
 //! programs that replay them, beside `answers`, which reads their lines.
-use replies::Refusal;
-use shelf::Compared;
-use shelf::Counted;
-use shelf::Dropped;
-use shelf::Formatted;
-use shelf::Found;
-use shelf::InUse;
-use shelf::Made;
+use flat::Flat;
+use flat::of_compared;
+use flat::of_counted;
+use flat::of_dropped;
+use flat::of_formatted;
+use flat::of_found;
+use flat::of_made;
+use flat::of_updated;
+use flat::of_use;
 use shelf::Updated;
-
-// Document 01's number, and three values, 0 where there is none.
-pub struct Reply {
-    number: u64,
-    first: u64,
-    second: u64,
-    third: u64,
-}
 
 // A number that document 01 has not, for what is no call.
 const NO_CALL: u64 = 99;
 
-fn done(first: u64, second: u64, third: u64) -> Reply {
-    Reply {
-        number: 0,
-        first: first,
-        second: second,
-        third: third,
-    }
-}
-
-fn with_number(number: u64) -> Reply {
-    Reply {
-        number: number,
-        first: 0,
-        second: 0,
-        third: 0,
-    }
-}
-
-fn refused(why: Refusal) -> Reply {
-    with_number(why.number())
-}
-
-fn of_format(answer: Formatted) -> Reply {
-    match answer {
-        Formatted::Done => done(0, 0, 0),
-        Formatted::Refused(why) => refused(why),
-    }
-}
-
-fn of_made(answer: Made) -> Reply {
-    match answer {
-        Made::Edition(edition) => done(edition, 0, 0),
-        Made::Refused(why) => refused(why),
-    }
-}
-
-fn of_updated(answer: Updated) -> Reply {
-    match answer {
-        Updated::Edition {
-            edition,
-            branches,
-            entries,
-        } => done(edition, branches, entries),
-        Updated::Refused(why) => refused(why),
-    }
-}
-
-fn of_dropped(answer: Dropped) -> Reply {
-    match answer {
-        Dropped::Freed { branches, entries } => done(branches, entries, 0),
-        Dropped::Refused(why) => refused(why),
-    }
-}
-
-fn of_counted(answer: Counted) -> Reply {
-    match answer {
-        Counted::Entries(n) => done(n, 0, 0),
-        Counted::Refused(why) => refused(why),
-    }
-}
-
-fn of_found(answer: Found) -> Reply {
-    match answer {
-        Found::Value(value) => done(value, 0, 0),
-        Found::Refused(why) => refused(why),
-    }
-}
-
-fn of_compared(answer: Compared) -> Reply {
-    match answer {
-        Compared::Equal => done(1, 0, 0),
-        Compared::Different => done(0, 0, 0),
-        Compared::Refused(why) => refused(why),
-    }
-}
-
-fn of_use(answer: InUse) -> Reply {
-    match answer {
-        InUse::Cells { branches, entries } => done(branches, entries, 0),
-        InUse::Refused(why) => refused(why),
+fn no_call() -> Flat {
+    Flat {
+        number: NO_CALL,
+        a: 0,
+        b: 0,
+        c: 0,
     }
 }
 
 // A listing with as many words of the output as the call has room for.
-fn list(a: &[u64], out: &mut [u64], edition: u64, place: u64, room: u64) -> Reply {
+fn list(a: &[u64], out: &mut [u64], edition: u64, place: u64, room: u64) -> Flat {
     let words = room as usize;
     if out.len() < words {
-        return with_number(NO_CALL);
+        return no_call();
     }
     of_counted(shelf::list(a, edition, place, &mut out[..words]))
 }
 
 // The calls that write no word of the arena.
-fn look(a: &[u64], out: &mut [u64], letter: u8, first: u64, second: u64, third: u64) -> Reply {
+fn look(a: &[u64], out: &mut [u64], letter: u8, first: u64, second: u64, third: u64) -> Flat {
     match letter {
         b'z' => of_counted(shelf::size(a, first)),
         b'u' => of_use(shelf::in_use(a)),
         b'g' => of_found(shelf::get(a, first, second, third)),
         b'l' => list(a, out, first, second, third),
         b'e' => of_compared(shelf::equal(a, first, second)),
-        _ => with_number(NO_CALL),
+        _ => no_call(),
     }
 }
 
@@ -135,7 +54,7 @@ fn update(a: &mut [u64], letter: u8, edition: u64, hash: u64, key: u64, value: u
 }
 
 // The calls that make an edition of none or of a whole one, and the one that lets an edition go.
-fn hold(a: &mut [u64], letter: u8, edition: u64) -> Reply {
+fn hold(a: &mut [u64], letter: u8, edition: u64) -> Flat {
     match letter {
         b'n' => of_made(shelf::new_edition(a)),
         b's' => of_made(shelf::share(a, edition)),
@@ -144,13 +63,13 @@ fn hold(a: &mut [u64], letter: u8, edition: u64) -> Reply {
 }
 
 // Makes a call with the arguments that stand first in its line.
-pub fn make(a: &mut [u64], out: &mut [u64], letter: u8, numbers: [u64; 8]) -> Reply {
+pub fn make(a: &mut [u64], out: &mut [u64], letter: u8, numbers: [u64; 8]) -> Flat {
     let first = numbers[0];
     let second = numbers[1];
     let third = numbers[2];
     let fourth = numbers[3];
     match letter {
-        b'f' => of_format(shelf::format(a, first, second, third, fourth)),
+        b'f' => of_formatted(shelf::format(a, first, second, third, fourth)),
         b'n' | b's' | b'd' => hold(a, letter, first),
         b'i' | b'c' | b'r' => of_updated(update(a, letter, first, second, third, fourth)),
         _ => look(a, out, letter, first, second, third),
@@ -158,14 +77,14 @@ pub fn make(a: &mut [u64], out: &mut [u64], letter: u8, numbers: [u64; 8]) -> Re
 }
 
 // Whether a reply is the answer of the line, which stands behind so many arguments.
-pub fn is_answer(reply: Reply, numbers: [u64; 8], arguments: usize) -> bool {
+pub fn is_answer(reply: Flat, numbers: [u64; 8], arguments: usize) -> bool {
     if 4 < arguments {
         return false;
     }
     reply.number == numbers[arguments]
-        && reply.first == numbers[arguments + 1]
-        && reply.second == numbers[arguments + 2]
-        && reply.third == numbers[arguments + 3]
+        && reply.a == numbers[arguments + 1]
+        && reply.b == numbers[arguments + 2]
+        && reply.c == numbers[arguments + 3]
 }
 
 // Whether the output has the entry of the line at a place.

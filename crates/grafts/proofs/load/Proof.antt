@@ -1,62 +1,89 @@
--- `grafts::load` meets its contract: after k turns the first k words are those of the row. Assumes nothing.
-use Rattle.grafts.specs.Grafts.{IsRow, rowAt}
-use Rattle.layout.proofs.SizeLaws.{small}
+-- `grafts::load` meets its contract: a branch's children part by part, an entry as its own only child. Assumes nothing.
+use mathlib.Core.Path.{refl, sym, _∙_}
 use Rattle.layout.specs.Columns.{columns}
-use lib.ListN.{length, length-set}
-use Prim.Native.Nat.{_-_, _≤_}
-use mathlib.Core.Path.{_≡_}
-use Rattle.grafts.proofs.StepLaws.{is-row-next, is-row-all}
+use Rattle.grafts.specs.Grafts.{kidRow}
+use Rattle.grafts.proofs.StepLaws.{row-entry, row-beyond, row-none}
+use Rattle.grafts.proofs.LoadLaws.{one-before, one-behind, one-left-out, none-row}
 use native.Mathlib.Omega.{arith}
 use borrow.Author.Needs.{needs}
 use Rattle.grafts.proofs.load.Statement.{statement}
 use Rattle.grafts.proofs.load.Tie as tie
 
-abbrev Inv-loop : tie.InvT-loop
-Inv-loop a z r at gap row₀ k₀ row k =
-    IsRow k (rowAt z (columns z a) r at gap 0) row × (length row ≡ 64) × (k ≤ z .degree)
+is-branch-requires : tie.Need-is-branch-requires
+is-branch-requires c κs = search needs
 
-abbrev μ-loop : tie.MeasureT-loop
-μ-loop a z r at gap row₀ k₀ row k = z .degree - k
+load-branch-requires : tie.Need-load-branch-requires
+load-branch-requires c κs =
+    let s = c .before .before .before .before .before in
+    (s .pre .0, (sym (c .before .before .is-branch .ensures) ∙ c .before .if1 .taken, s .pre .1 .0, s .pre .1 .1))
 
-loop-holds : tie.Need-loop-holds Inv-loop μ-loop
-loop-holds c = (λ k l. absurd (omega arith), c .before .before .pre .1 .0, omega arith)
+same-length : tie.Need-same-length
+same-length c = search needs
 
-row-word-requires : tie.Need-row-word-requires Inv-loop μ-loop
-row-word-requires c κs = search needs
+returns : tie.Need-returns
+returns c = search needs
 
-mul-row : tie.Need-mul-row Inv-loop μ-loop
-mul-row c = omega (arith, c .before .if1 .taken, small _ (c .before .before .before .before .before .before .pre .0 .allowed) .degree-high)
+is-entry-requires : tie.Need-is-entry-requires
+is-entry-requires c κs = search needs
 
-slice-write-row : tie.Need-slice-write-row Inv-loop μ-loop
-slice-write-row c = omega (arith, c .before .if1 .taken, c .before .before .before .loop .inv .1, small _ (c .before .before .before .before .before .before .pre .0 .allowed) .degree-high)
+slice-write-row : tie.Need-slice-write-row
+slice-write-row c = search needs
 
-add-k : tie.Need-add-k Inv-loop μ-loop
-add-k c = search needs
+same-length-2 : tie.Need-same-length-2
+same-length-2 c = search needs
 
-loop-less : tie.Need-loop-less Inv-loop μ-loop
-loop-less c = search needs
+returns-2 : tie.Need-returns-2
+returns-2 c =
+    let s = c .before .before .before .before .before .before .before in
+    let σ = columns (s .args .z) (s .args .a .now) in
+    let other = sym (c .before .before .before .before .is-branch .ensures) ∙ c .before .before .before .if1 .left in
+    one-before (kidRow (s .args .z) σ (s .args .r)) _ _ _ _ (s .pre .0 .1) (λ k nz. row-beyond _ σ _ k other nz) _ (s .pre .1 .1) (c .if3 .taken)
+    (row-entry _ σ _ 0 other (sym (c .before .before .is-entry .ensures) ∙ c .before .if2 .taken) refl)
 
-loop-again : tie.Need-loop-again Inv-loop μ-loop
-loop-again c = (is-row-next (rowAt (c .before .before .before .before .before .before .args .z) (columns (c .before .before .before .before .before .before .args .z) (c .before .before .before .before .before .before .args .a .now)) (c .before .before .before .before .before .before .args .r) (c .before .before .before .before .before .before .args .at) (c .before .before .before .before .before .before .args .gap) 0) (c .before .before .before .loop .row) (c .before .before .before .loop .k) (c .row-word .result) (omega (arith, c .before .if1 .taken, c .before .before .before .loop .inv .1, small _ (c .before .before .before .before .before .before .pre .0 .allowed) .degree-high)) (c .row-word .ensures) (c .before .before .before .loop .inv .0), simp length-set (c .before .before .before .loop .inv .1), omega (arith, c .before .if1 .taken))
+slice-write-row-2 : tie.Need-slice-write-row-2
+slice-write-row-2 c = search needs
 
-same-length : tie.Need-same-length Inv-loop μ-loop
-same-length c = omega (arith, c .before .before .loop .inv .1, c .before .before .before .before .before .pre .1 .0)
+same-length-3 : tie.Need-same-length-3
+same-length-3 c = search needs
 
-returns : tie.Need-returns Inv-loop μ-loop
-returns c = is-row-all (rowAt (c .before .before .before .before .before .args .z) (columns (c .before .before .before .before .before .args .z) (c .before .before .before .before .before .args .a .now)) (c .before .before .before .before .before .args .r) (c .before .before .before .before .before .args .at) (c .before .before .before .before .before .args .gap) 0) (c .before .before .loop .row) (c .before .before .loop .k) (c .before .before .before .before .before .args .z .degree) (omega (arith, c .if1 .left)) (c .before .before .loop .inv .0)
+returns-3 : tie.Need-returns-3
+returns-3 c =
+    let s = c .before .before .before .before .before .before .before .before in
+    let σ = columns (s .args .z) (s .args .a .now) in
+    let other = sym (c .before .before .before .before .before .is-branch .ensures) ∙ c .before .before .before .before .if1 .left in
+    one-behind (kidRow (s .args .z) σ (s .args .r)) _ _ _ _ (s .pre .0 .1) (λ k nz. row-beyond _ σ _ k other nz) _ (c .before .if3 .left) (c .if4 .taken)
+    (row-entry _ σ _ 0 other (sym (c .before .before .before .is-entry .ensures) ∙ c .before .before .if2 .taken) refl)
+
+returns-4 : tie.Need-returns-4
+returns-4 c =
+    let s = c .before .before .before .before .before .before .before .before in
+    let σ = columns (s .args .z) (s .args .a .now) in
+    let other = sym (c .before .before .before .before .before .is-branch .ensures) ∙ c .before .before .before .before .if1 .left in
+    one-left-out (kidRow (s .args .z) σ (s .args .r)) _ _ _ _ (s .pre .0 .1) (λ k nz. row-beyond _ σ _ k other nz) (c .before .if3 .left)
+    (omega (arith, c .if4 .left, s .pre .1 .1))
+
+returns-5 : tie.Need-returns-5
+returns-5 c =
+    let s = c .before .before .before .before .before .before in
+    let σ = columns (s .args .z) (s .args .a .now) in
+    let other = sym (c .before .before .before .is-branch .ensures) ∙ c .before .before .if1 .left in
+    none-row (kidRow (s .args .z) σ (s .args .r)) _ _ _ _ (s .pre .0 .1)
+    (λ k. row-none _ σ _ k other (sym (c .before .is-entry .ensures) ∙ c .if2 .left))
 
 pub load-spec : {M : Type 1} → statement M
 load-spec =
     tie.close
     (tie.spec
-    Inv-loop
-    μ-loop
-    loop-holds
-    row-word-requires
-    mul-row
-    slice-write-row
-    add-k
-    loop-less
-    loop-again
+    is-branch-requires
+    load-branch-requires
     same-length
-    returns)
+    returns
+    is-entry-requires
+    slice-write-row
+    same-length-2
+    returns-2
+    slice-write-row-2
+    same-length-3
+    returns-3
+    returns-4
+    returns-5)

@@ -1,7 +1,8 @@
 -- `releases::release` meets its contract: the depths left fall from branch to child. Assumes nothing.
 use Rattle.releases.proofs.CaseLaws.{branch-place, place-says, release-entry, release-none}
 use Rattle.releases.proofs.StepLaws.{row-none, row-next, release-over, release-shared, release-done}
-use Rattle.releases.specs.Releases.{rowFrom, releaseFrom}
+use Rattle.releases.specs.Releases.{RowGoesOn, releaseFrom}
+use Rattle.layout.proofs.SizeLaws.{small}
 use Rattle.cells.proofs.KeptLaws.{lent-same}
 use Rattle.lookup.proofs.FindLaws.{kind-says}
 use borrow.Author.Tests.{not-true, not-false}
@@ -21,6 +22,7 @@ use Rattle.cells.proofs.free.give_back.Reads as give-back-reads
 use Rattle.lookup.proofs.links.is_entry.Reads as is-entry-reads
 use Rattle.releases.proofs.is_at_place.Reads as is-at-place-reads
 use Rattle.releases.proofs.is_last.Reads as is-last-reads
+use Rattle.releases.proofs.pass.Reads as pass-reads
 use Rattle.releases.proofs.release_chain.Reads as release-chain-reads
 use Rattle.releases.proofs.+release.{statement}
 use Rattle.releases.proofs.+release.Tie.{close}
@@ -45,6 +47,8 @@ claims t = (
   is-at-place-reads.Learnt,
   is-last-reads.Asked,
   is-last-reads.Learnt,
+  pass-reads.Asked,
+  pass-reads.Learnt,
   take-out-reads.Asked,
   take-out-reads.Learnt,
   release-below t,
@@ -54,7 +58,7 @@ claims t = (
 )
 
 abbrev release-Inv-loop : release-lts.InvT-loop
-release-Inv-loop a₀ z left r k₀ a k = (a ≡ rowFrom (releaseFrom z (left - 1) (z .depths - (left - 1))) z r k a₀) × (length a ≡ length a₀) × (k ≤ z .degree)
+release-Inv-loop a₀ z left r k₀ a k = (RowGoesOn (releaseFrom z (left - 1) (z .depths - (left - 1))) z r k₀ k a₀ a) × (length a ≡ length a₀) × (k ≤ z .degree)
 
 abbrev release-μ-loop : release-lts.MeasureT-loop
 release-μ-loop a₀ z left r k₀ a k = z .degree - k
@@ -95,35 +99,47 @@ release-same-length-3 t c = search needs
 release-returns-4 : (t : ℕ) → release-lts.Need-returns-4 (claims t) (release-at t) release.Post release-Inv-loop release-μ-loop
 release-returns-4 t c = release-shared _ _ _ _ (sym (c .before .before .before .before .before .before .before .before .before .before .before .is-entry .ensures) ∙ c .before .before .before .before .before .before .before .before .before .before .if1 .left) (sym (c .before .before .before .before .before .before .is-at-place .ensures) ∙ not-false _ (c .before .before .before .before .before .if3 .left)) _ _ (c .before .before .before .before .before .before .before .before .before .if2 .left) (sym (c .before .before .before .is-last .ensures .0) ∙ not-true _ (c .if4 .taken)) (c .before .before .before .is-last .ensures .1)
 
+release-sub-pass : (t : ℕ) → release-lts.Need-sub-pass (claims t) (release-at t) release.Post release-Inv-loop release-μ-loop
+release-sub-pass t c = search needs
+
+release-pass-requires : (t : ℕ) → release-lts.Need-pass-requires (claims t) (release-at t) release.Post release-Inv-loop release-μ-loop
+release-pass-requires t c κs = (lent-same (omega (arith, c .before .before .before .before .is-last .kept)) (c .before .before .before .before .before .before .before .before .before .before .before .before .before .before .pre .1 .0), ((place-says _ _ _ _ (sym (c .before .before .before .before .before .before .before .is-at-place .ensures) ∙ not-false _ (c .before .before .before .before .before .before .if3 .left)) .0), omega (arith, c .before .before .before .before .before .before .before .before .before .before .before .before .before .before .pre .1 .1), omega arith))
+
 release-loop-holds : (t : ℕ) → release-lts.Need-loop-holds (claims t) (release-at t) release.Post release-Inv-loop release-μ-loop
-release-loop-holds t c = (row-none _ _ _ _, refl, omega arith)
+release-loop-holds t c = ((λ w g. g), refl, c .before .before .pass .ensures .0 .1)
 
 release-take-out-requires : (t : ℕ) → release-lts.Need-take-out-requires (claims t) (release-at t) release.Post release-Inv-loop release-μ-loop
-release-take-out-requires t c κs = (lent-same (omega (arith, c .before .before .before .loop .inv .1, c .before .before .before .before .before .before .before .is-last .kept)) (c .before .before .before .before .before .before .before .before .before .before .before .before .before .before .before .before .before .pre .1 .0), branch-place _ _ _ (place-says _ _ _ _ (sym (c .before .before .before .before .before .before .before .before .before .before .is-at-place .ensures) ∙ not-false _ (c .before .before .before .before .before .before .before .before .before .if3 .left)) .0) (c .before .if5 .taken))
+release-take-out-requires t c κs = (lent-same (omega (arith, c .before .before .before .loop .inv .1, c .before .before .before .before .before .before .pass .kept, c .before .before .before .before .before .before .before .before .before .before .before .is-last .kept)) (c .before .before .before .before .before .before .before .before .before .before .before .before .before .before .before .before .before .before .before .before .before .pre .1 .0), branch-place _ _ _ (place-says _ _ _ _ (sym (c .before .before .before .before .before .before .before .before .before .before .before .before .before .before .is-at-place .ensures) ∙ not-false _ (c .before .before .before .before .before .before .before .before .before .before .before .before .before .if3 .left)) .0) (c .before .if5 .taken))
 
 release-sub-release : (t : ℕ) → release-lts.Need-sub-release (claims t) (release-at t) release.Post release-Inv-loop release-μ-loop
 release-sub-release t c = search needs
 
 release-release-requires : (t : ℕ) → release-lts.Need-release-requires (claims t) (release-at t) release.Post release-Inv-loop release-μ-loop
-release-release-requires t c κs = (omega (arith, c .before .before .before .before .before .before .before .before .before .before .before .before .before .before .before .before .before .if2 .left, c .before .before .before .before .before .before .before .before .before .before .before .before .before .before .before .before .before .before .before .before .before .pre .0), (lent-same (omega (arith, c .before .before .before .take-out .kept, c .before .before .before .before .before .before .before .loop .inv .1, c .before .before .before .before .before .before .before .before .before .before .before .is-last .kept)) (c .before .before .before .before .before .before .before .before .before .before .before .before .before .before .before .before .before .before .before .before .before .pre .1 .0), omega (arith, c .before .before .before .before .before .before .before .before .before .before .before .before .before .before .before .before .before .before .before .before .before .pre .1 .1)))
+release-release-requires t c κs = (omega (arith, c .before .before .before .before .before .before .before .before .before .before .before .before .before .before .before .before .before .before .before .before .before .if2 .left, c .before .before .before .before .before .before .before .before .before .before .before .before .before .before .before .before .before .before .before .before .before .before .before .before .before .pre .0), (lent-same (omega (arith, c .before .before .before .take-out .kept, c .before .before .before .before .before .before .before .loop .inv .1, c .before .before .before .before .before .before .before .before .before .before .pass .kept, c .before .before .before .before .before .before .before .before .before .before .before .before .before .before .before .is-last .kept)) (c .before .before .before .before .before .before .before .before .before .before .before .before .before .before .before .before .before .before .before .before .before .before .before .before .before .pre .1 .0), omega (arith, c .before .before .before .before .before .before .before .before .before .before .before .before .before .before .before .before .before .before .before .before .before .before .before .before .before .pre .1 .1)))
 
-release-add-k : (t : ℕ) → release-lts.Need-add-k (claims t) (release-at t) release.Post release-Inv-loop release-μ-loop
-release-add-k t c = search needs
+release-sub-pass-2 : (t : ℕ) → release-lts.Need-sub-pass-2 (claims t) (release-at t) release.Post release-Inv-loop release-μ-loop
+release-sub-pass-2 t c = omega (arith, c .before .before .before .before .before .before .before .before .before .before .before .before .before .before .before .before .before .before .before .before .before .before .before .before .before .if2 .left)
+
+release-add-pass : (t : ℕ) → release-lts.Need-add-pass (claims t) (release-at t) release.Post release-Inv-loop release-μ-loop
+release-add-pass t c = omega (arith, c .before .before .before .before .before .before .before .before .before .if5 .taken, small _ (c .before .before .before .before .before .before .before .before .before .before .before .before .before .before .before .before .before .before .before .before .before .before .before .before .before .before .before .before .before .pre .1 .0 .allowed))
+
+release-pass-requires-2 : (t : ℕ) → release-lts.Need-pass-requires-2 (claims t) (release-at t) release.Post release-Inv-loop release-μ-loop
+release-pass-requires-2 t c κs = (lent-same (omega (arith, c .before .before .before .release .kept, c .before .before .before .before .before .before .before .take-out .kept, c .before .before .before .before .before .before .before .before .before .before .before .loop .inv .1, c .before .before .before .before .before .before .before .before .before .before .before .before .before .before .pass .kept, c .before .before .before .before .before .before .before .before .before .before .before .before .before .before .before .before .before .before .before .is-last .kept)) (c .before .before .before .before .before .before .before .before .before .before .before .before .before .before .before .before .before .before .before .before .before .before .before .before .before .before .before .before .before .pre .1 .0), ((place-says _ _ _ _ (sym (c .before .before .before .before .before .before .before .before .before .before .before .before .before .before .before .before .before .before .before .before .before .before .is-at-place .ensures) ∙ not-false _ (c .before .before .before .before .before .before .before .before .before .before .before .before .before .before .before .before .before .before .before .before .before .if3 .left)) .0), omega (arith, c .before .before .before .before .before .before .before .before .before .before .before .before .before .before .before .before .before .before .before .before .before .before .before .before .before .before .before .before .before .pre .1 .1), omega (arith, c .before .before .before .before .before .before .before .before .before .if5 .taken)))
 
 release-loop-less : (t : ℕ) → release-lts.Need-loop-less (claims t) (release-at t) release.Post release-Inv-loop release-μ-loop
-release-loop-less t c = search needs
+release-loop-less t c = omega (arith, c .before .before .before .before .before .before .before .before .before .before .before .before .if5 .taken, c .before .before .pass2 .ensures .0 .0)
 
 release-loop-again : (t : ℕ) → release-lts.Need-loop-again (claims t) (release-at t) release.Post release-Inv-loop release-μ-loop
-release-loop-again t c = (row-next _ _ _ _ _ _ _ _ _ (c .before .before .before .before .before .before .before .before .before .before .loop .inv .0) (c .before .before .before .before .before .before .take-out .ensures .0) (c .before .before .before .before .before .before .take-out .ensures .1) (c .before .before .release .ensures), omega (arith, c .before .before .release .kept, c .before .before .before .before .before .before .take-out .kept, c .before .before .before .before .before .before .before .before .before .before .loop .inv .1), omega (arith, c .before .before .before .before .before .before .before .before .if5 .taken))
+release-loop-again t c = ((λ w g. c .before .before .pass2 .ensures .1 w (row-next _ _ _ _ _ _ _ _ _ (c .before .before .before .before .before .before .before .before .before .before .before .before .before .before .loop .inv .0 w g) (c .before .before .before .before .before .before .before .before .before .before .take-out .ensures .0) (c .before .before .before .before .before .before .before .before .before .before .take-out .ensures .1) (c .before .before .before .before .before .before .release .ensures))), omega (arith, c .before .before .pass2 .kept, c .before .before .before .before .before .before .release .kept, c .before .before .before .before .before .before .before .before .before .before .take-out .kept, c .before .before .before .before .before .before .before .before .before .before .before .before .before .before .loop .inv .1), c .before .before .pass2 .ensures .0 .1)
 
 release-give-back-requires : (t : ℕ) → release-lts.Need-give-back-requires (claims t) (release-at t) release.Post release-Inv-loop release-μ-loop
-release-give-back-requires t c κs = (lent-same (omega (arith, c .before .before .before .loop .inv .1, c .before .before .before .before .before .before .before .is-last .kept)) (c .before .before .before .before .before .before .before .before .before .before .before .before .before .before .before .before .before .pre .1 .0), kind-says _ _ _ (place-says _ _ _ _ (sym (c .before .before .before .before .before .before .before .before .before .before .is-at-place .ensures) ∙ not-false _ (c .before .before .before .before .before .before .before .before .before .if3 .left)) .0) .0)
+release-give-back-requires t c κs = (lent-same (omega (arith, c .before .before .before .loop .inv .1, c .before .before .before .before .before .before .pass .kept, c .before .before .before .before .before .before .before .before .before .before .before .is-last .kept)) (c .before .before .before .before .before .before .before .before .before .before .before .before .before .before .before .before .before .before .before .before .before .pre .1 .0), kind-says _ _ _ (place-says _ _ _ _ (sym (c .before .before .before .before .before .before .before .before .before .before .before .before .before .before .is-at-place .ensures) ∙ not-false _ (c .before .before .before .before .before .before .before .before .before .before .before .before .before .if3 .left)) .0) .0)
 
 release-same-length-4 : (t : ℕ) → release-lts.Need-same-length-4 (claims t) (release-at t) release.Post release-Inv-loop release-μ-loop
 release-same-length-4 t c = search needs
 
 release-returns-5 : (t : ℕ) → release-lts.Need-returns-5 (claims t) (release-at t) release.Post release-Inv-loop release-μ-loop
-release-returns-5 t c = release-done _ _ _ _ (sym (c .before .before .before .before .before .before .before .before .before .before .before .before .before .before .before .before .before .before .is-entry .ensures) ∙ c .before .before .before .before .before .before .before .before .before .before .before .before .before .before .before .before .before .if1 .left) (sym (c .before .before .before .before .before .before .before .before .before .before .before .before .before .is-at-place .ensures) ∙ not-false _ (c .before .before .before .before .before .before .before .before .before .before .before .before .if3 .left)) _ (c .before .before .before .before .before .before .before .before .before .before .before .before .before .before .before .before .before .before .before .before .args .z .depths) _ _ _ _ (c .before .before .before .before .before .before .before .before .before .before .before .before .before .before .before .before .if2 .left) (c .before .before .before .before .before .before .before .before .before .before .before .before .before .before .before .before .before .before .before .before .pre .1 .1) refl (sym (c .before .before .before .before .before .before .before .before .before .before .is-last .ensures .0) ∙ not-false _ (c .before .before .before .before .before .before .before .if4 .left)) (c .before .before .before .before .before .before .before .before .before .before .is-last .ensures .1) (c .before .before .before .before .before .before .loop .inv .0) (omega (arith, c .before .before .before .before .before .before .loop .inv .2, c .before .before .before .before .if5 .left)) (c .before .before .give-back .ensures)
+release-returns-5 t c = release-done _ _ _ _ (sym (c .before .before .before .before .before .before .before .before .before .before .before .before .before .before .before .before .before .before .before .before .before .before .is-entry .ensures) ∙ c .before .before .before .before .before .before .before .before .before .before .before .before .before .before .before .before .before .before .before .before .before .if1 .left) (sym (c .before .before .before .before .before .before .before .before .before .before .before .before .before .before .before .before .before .is-at-place .ensures) ∙ not-false _ (c .before .before .before .before .before .before .before .before .before .before .before .before .before .before .before .before .if3 .left)) _ (c .before .before .before .before .before .before .before .before .before .before .before .before .before .before .before .before .before .before .before .before .before .before .before .before .args .z .depths) _ _ _ _ (c .before .before .before .before .before .before .before .before .before .before .before .before .before .before .before .before .before .before .before .before .if2 .left) (c .before .before .before .before .before .before .before .before .before .before .before .before .before .before .before .before .before .before .before .before .before .before .before .before .pre .1 .1) refl (sym (c .before .before .before .before .before .before .before .before .before .before .before .before .before .before .is-last .ensures .0) ∙ not-false _ (c .before .before .before .before .before .before .before .before .before .before .before .if4 .left)) (c .before .before .before .before .before .before .before .before .before .before .before .before .before .before .is-last .ensures .1) (c .before .before .before .before .before .before .loop .inv .0 _ (c .before .before .before .before .before .before .before .before .before .pass .ensures .1 _ (row-none _ _ _ _))) (omega (arith, c .before .before .before .before .before .before .loop .inv .2, c .before .before .before .before .if5 .left)) (c .before .before .give-back .ensures)
 
 pub +release-spec : {M : Type 1} → statement M
 +release-spec = close μ-release λ t. release-lts.spec (claims t)
@@ -143,11 +159,15 @@ pub +release-spec : {M : Type 1} → statement M
     (release-is-last-requires t)
     (release-same-length-3 t)
     (release-returns-4 t)
+    (release-sub-pass t)
+    (release-pass-requires t)
     (release-loop-holds t)
     (release-take-out-requires t)
     (release-sub-release t)
     (release-release-requires t)
-    (release-add-k t)
+    (release-sub-pass-2 t)
+    (release-add-pass t)
+    (release-pass-requires-2 t)
     (release-loop-less t)
     (release-loop-again t)
     (release-give-back-requires t)

@@ -6,8 +6,8 @@ use borrow.Author.Needs.{needs}
 use Rattle.stored_calls.proofs.list.Statement.{statement}
 use Rattle.stored_calls.proofs.list.Tie as tie
 
-with-number-requires : tie.Need-with-number-requires
-with-number-requires c κs = search needs
+no-call-requires : tie.Need-no-call-requires
+no-call-requires c κs = search needs
 
 returns : tie.Need-returns
 returns c = search needs
@@ -34,7 +34,7 @@ pub list-spec : {M : Type 1} → statement M
 list-spec =
     tie.close
     (tie.spec
-    with-number-requires
+    no-call-requires
     returns
     slice-relend-prefix-list
     slice-aggregate-list

@@ -53,6 +53,61 @@ pub fn see<K, V, P: SharedPointerKind, H: BuildHasher>(map: &HashTrieMap<K, V, P
     see_node(&map.root, map.degree)
 }
 
+/// A node of a map where it stands, to go down from child by child: [`see`] shows a map as a whole, which takes too long
+/// where maps are large and calls are many.
+#[derive(Debug)]
+pub struct Place<'a, K, V, P: SharedPointerKind> {
+    node: &'a SharedPointer<Node<K, V, P>, P>,
+    degree: u8,
+}
+
+impl<K, V, P: SharedPointerKind> Clone for Place<'_, K, V, P> {
+    fn clone(&self) -> Self {
+        *self
+    }
+}
+
+impl<K, V, P: SharedPointerKind> Copy for Place<'_, K, V, P> {}
+
+/// The root of a map.
+pub fn root<K, V, P: SharedPointerKind, H: BuildHasher>(map: &HashTrieMap<K, V, P, H>) -> Place<'_, K, V, P> {
+    Place { node: &map.root, degree: map.degree }
+}
+
+impl<'a, K, V, P: SharedPointerKind> Place<'a, K, V, P> {
+    pub fn address(self) -> usize {
+        SharedPointer::as_ptr(self.node) as usize
+    }
+
+    /// The child of a branch at a segment; a leaf has none.
+    pub fn child(self, segment: usize) -> Option<Self> {
+        let Node::Branch(subtrees) = &**self.node else { return None };
+        subtrees.get(segment).map(|node| Place { node, ..self })
+    }
+
+    /// The children of a branch with their segments, in ascending order.
+    pub fn children(self) -> impl Iterator<Item = (usize, Self)> {
+        (0..usize::from(self.degree)).filter_map(move |segment| Some((segment, self.child(segment)?)))
+    }
+
+    /// The child of a branch on the way to a hash.
+    pub fn towards(self, hash: u64, depth: usize) -> Option<Self> {
+        self.child(index_from_hash(hash, depth, self.degree)?)
+    }
+
+    /// The entries of a leaf, the front first; a branch is no leaf.
+    pub fn leaf(self) -> Option<Vec<SeenEntry<'a, K, V>>> {
+        if matches!(&**self.node, Node::Branch(_)) {
+            return None;
+        }
+        match see_node(self.node, self.degree) {
+            Seen::Branch(..) => None,
+            Seen::Single(entry) => Some(vec![entry]),
+            Seen::Collision(entries) => Some(entries),
+        }
+    }
+}
+
 /// The crate's `index_from_hash`.
 pub fn index_from_hash(hash: u64, depth: usize, degree: u8) -> Option<usize> {
     node_utils::index_from_hash(hash, depth, degree)

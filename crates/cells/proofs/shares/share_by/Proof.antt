@@ -1,18 +1,18 @@
--- `cells::shares::share` meets its contract: the count is tested before it rises. Assumes nothing.
+-- `cells::shares::share_by` meets its contract: the count is tested before it rises. Assumes nothing.
 use native.Mathlib.Omega.{arith}
 use borrow.Author.Tests.{lt-ltb, le-ltb}
 use Rattle.cells.specs.Mirrors.{shareWords}
 use Rattle.layout.proofs.ColumnLaws.{has-low}
 use mathlib.Core.Path.{sym, _∙_}
 use borrow.Author.Needs.{needs}
-use Rattle.cells.proofs.shares.share.Statement.{statement}
-use Rattle.cells.proofs.shares.share.Tie as tie
+use Rattle.cells.proofs.shares.share_by.Statement.{statement}
+use Rattle.cells.proofs.shares.share_by.Tie as tie
 
 is-cell-requires : tie.Need-is-cell-requires
 is-cell-requires c κs = search needs
 
 word-requires : tie.Need-word-requires
-word-requires c κs = (search needs, has-low _ _ _ (sym (c .before .before .is-cell .ensures) ∙ c .before .if1 .taken) (omega arith))
+word-requires c κs = (c .before .before .before .before .before .pre, has-low _ _ _ (sym (c .before .before .is-cell .ensures) ∙ c .before .if1 .taken) (omega arith))
 
 add-set-word : tie.Need-add-set-word
 add-set-word c = search needs
@@ -39,8 +39,8 @@ returns-3 : tie.Need-returns-3
 unfolding shareWords
 returns-3 c = rw (sym (c .before .is-cell .ensures) ∙ c .if1 .left)
 
-pub share-spec : {M : Type 1} → statement M
-share-spec =
+pub share-by-spec : {M : Type 1} → statement M
+share-by-spec =
     tie.close
     (tie.spec
     is-cell-requires
