@@ -1,11 +1,13 @@
--- How a row is loaded: the children of a branch go part by part into a list that is all 0 before, and an entry, its own only
--- child, goes in as one word. And how far a row is filled.
+-- How a row is loaded: the children of a branch one by one, and an entry, its own only child, as one word in a list that is all 0
+-- before. And how far a row is filled.
 use Prim.Native.Nat.{ℕ, zero, suc, _+_, _-_, _≤_, _<_}
 use mathlib.Core.Path.{_≡_, refl, sym, ap, _∙_}
-use mathlib.Core.Bool.{true}
+use mathlib.Core.Bool.{true, cond}
 use mathlib.Core.List.{List}
 use mathlib.Core.Logic.{⊎-elim}
 use native.Mathlib.Omega.{arith}
+use borrow.Author.Tests.{lt-ltb, le-ltb}
+use lib.Dec.{ltb}
 use lib.Bits.{bitOr, or-add-and, and-le-l, and-le-r}
 use lib.ListN.{length, getD, set, replicate, length-replicate}
 use lib.Seq.{getD-set-same, getD-set-other}
@@ -18,7 +20,7 @@ use Rattle.arena.proofs.RefLaws.{refs-branch}
 use Rattle.lookup.specs.Lookup.{namesKind}
 use Rattle.lookup.proofs.FindLaws.{kind-says}
 use Rattle.cells.proofs.StepColumns.{lent-refs}
-use Rattle.grafts.specs.Grafts.{kidRow, rowWith, IsRow, Blank, Copied, NoneFrom}
+use Rattle.grafts.specs.Grafts.{kidRow, rowWith, IsRow, Blank, NoneFrom}
 use Rattle.grafts.proofs.RowLaws.{with-at, with-behind, with-before}
 use Rattle.grafts.proofs.StepLaws.{row-branch}
 
@@ -43,44 +45,37 @@ zeros-none (suc n) (suc k) = zeros-none n k
 pub zeros-blank : Blank (replicate 64 0)
 zeros-blank = record { long = length-replicate {A = ℕ} 64 0; none = zeros-none 64 }
 
--- PARTS
-module _ (f : ℕ → ℕ) (g m : ℕ) (w : List ℕ) where
-  pub copied-none-yet : Copied f g m m w w
-  copied-none-yet = record { within = λ k l h. absurd (omega arith); before = λ k l. refl; behind = λ k l. refl }
+-- THE ROW OF A BRANCH, word by word, but for the place of the new child, which is cleared at the end
+abbrev pub RowBut : (ℕ → ℕ) → ℕ → ℕ → ℕ → List ℕ → Type 0
+RowBut f p g n w = (k : ℕ) → k < n → (k ≡ p → ⊥) → getD w k 0 ≡ rowWith f p g 0 k
 
-  pub copied-next : (n x : ℕ) (v : List ℕ) → m ≤ n → n < length v → x ≡ f (n - g) → Copied f g m n w v
-      → Copied f g m (n + 1) w (set v n x)
-  copied-next n x v l h e C =
-      record {
-        within = λ k lk hk.
-            ⊎-elim
-            (λ q. ap (λ (j : ℕ). getD (set v n x) j 0) q ∙ getD-set-same v n x 0 h ∙ e ∙ ap (λ (j : ℕ). f (j - g)) (sym q))
-            (λ ne. getD-set-other v n k x 0 (λ q. ne q) ∙ C .within k lk (omega (arith, ne)))
-            (eq? k n);
-        before = λ k lk. getD-set-other v n k x 0 (λ q. omega arith) ∙ C .before k lk;
-        behind = λ k lk. getD-set-other v n k x 0 (λ q. omega arith) ∙ C .behind k (omega arith);
-      }
+pub rise-low : (p g k : ℕ) → g ≤ 1 → cond (ltb p k) g 0 ≤ k
+rise-low p g k l =
+    ⊎-elim (λ h. rw (lt-ltb p k h) (omega arith)) (λ h. rw (le-ltb p k h) (omega arith)) (lt? p k)
 
-  -- where the part ends before it begins, it has no words
-  pub copied-all : (n t : ℕ) (v : List ℕ) → m ≤ n → n - m ≤ t - m → t ≤ n → Copied f g m n w v → Copied f g m t w v
-  copied-all n t v l few h C =
-      record {
-        within = λ k lk hk. C .within k lk (omega arith);
-        before = C .before;
-        behind = λ k lk. ⊎-elim (λ low. C .before k low) (λ high. C .behind k (omega arith)) (lt? k m);
-      }
+module _ (f : ℕ → ℕ) (p g : ℕ) where
+  risen : (k : ℕ) → (k ≡ p → ⊥) → f (k - cond (ltb p k) g 0) ≡ rowWith f p g 0 k
+  risen k ne = by (tri k p)
+    where
+      by : Tri k p → f (k - cond (ltb p k) g 0) ≡ rowWith f p g 0 k
+      by (is-less h) = rw (le-ltb p k (omega arith)) (ap f (omega arith) ∙ sym (with-before f p g 0 k h))
+      by (is-equal e) = absurd (ne e)
+      by (is-more h) = rw (lt-ltb p k h) (sym (with-behind f p g 0 k h))
 
--- the part before a place and the part behind it are the whole row
-pub parts-row : (f : ℕ → ℕ) (p g d : ℕ) (u v w : List ℕ) → p < d → Blank u → Copied f 0 0 p u v → Copied f g (p + 1) d v w
-    → IsRow d (rowWith f p g 0) w
-parts-row f p g d u v w l b C D k lk = by (tri k p)
-  where
-    by : Tri k p → getD w k 0 ≡ rowWith f p g 0 k
-    by (is-less h) =
-        D .before k (omega arith) ∙ C .within k (omega arith) h ∙ ap f (omega arith) ∙ sym (with-before f p g 0 k h)
-    by (is-equal e) =
-        D .before k (omega arith) ∙ C .behind k (omega arith) ∙ b .none k ∙ sym (with-at f p g 0 k e)
-    by (is-more h) = D .within k (omega arith) lk ∙ sym (with-behind f p g 0 k h)
+  pub row-but-next : (n x : ℕ) (w : List ℕ) → n < length w → x ≡ f (n - cond (ltb p n) g 0) → RowBut f p g n w
+      → RowBut f p g (n + 1) (set w n x)
+  row-but-next n x w l e R k lk ne =
+      ⊎-elim
+      (λ q. ap (λ (j : ℕ). getD (set w n x) j 0) q ∙ getD-set-same w n x 0 l ∙ e ∙ ap (λ (j : ℕ). f (j - cond (ltb p j) g 0)) (sym q) ∙ risen k ne)
+      (λ other. getD-set-other w n k x 0 (λ q. other q) ∙ R k (omega (arith, other)) ne)
+      (eq? k n)
+
+  pub row-but-all : (n d : ℕ) (w : List ℕ) → d ≤ n → p < length w → RowBut f p g n w → IsRow d (rowWith f p g 0) (set w p 0)
+  row-but-all n d w h l R k lk =
+      ⊎-elim
+      (λ q. ap (λ (j : ℕ). getD (set w p 0) j 0) q ∙ getD-set-same w p 0 0 l ∙ sym (with-at f p g 0 k q))
+      (λ other. getD-set-other w p k 0 0 (λ q. other q) ∙ R k (omega arith) other)
+      (eq? k p)
 
 -- ONE WORD, OR NONE. The row of a node that is no branch has a word at most at place 0.
 module _ (f : ℕ → ℕ) (p g d : ℕ) (w : List ℕ) (b : Blank w) (only : (k : ℕ) → (k ≡ 0 → ⊥) → f k ≡ 0) where

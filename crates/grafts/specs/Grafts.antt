@@ -75,12 +75,6 @@ pub record Blank (w : List ℕ) : Type 0 where
   pub long : length w ≡ 64
   pub none : (k : ℕ) → getD w k 0 ≡ 0
 
--- the list v is the list w, with the words of f in the places from m to n, each g places further up
-pub record Copied (f : ℕ → ℕ) (g m n : ℕ) (w v : List ℕ) : Type 0 where
-  pub within : (k : ℕ) → m ≤ k → k < n → getD v k 0 ≡ f (k - g)
-  pub before : (k : ℕ) → k < m → getD v k 0 ≡ getD w k 0
-  pub behind : (k : ℕ) → n ≤ k → getD v k 0 ≡ getD w k 0
-
 -- of the first m words of a row those from n on are 0
 abbrev pub NoneFrom : ℕ → ℕ → (ℕ → ℕ) → Type 0
 NoneFrom n m f = (k : ℕ) → n ≤ k → k < m → f k ≡ 0

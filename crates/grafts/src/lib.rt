@@ -18,14 +18,15 @@ use layout::words;
 use lookup::links;
 use sparse_array::Place;
 ghost use mathlib.Core.Path.{_≡_};
-ghost use mathlib.Core.Bool.{true};
+ghost use mathlib.Core.Bool.{true, cond};
 ghost use Prim.Native.Nat.{_-_, _≤_, _<_};
+ghost use lib.Dec.{ltb};
 ghost use lib.ListN.{length};
 ghost use Rattle.layout.specs.Layout.{Allowed, Lent};
 ghost use Rattle.layout.specs.Columns.{columns};
 ghost use Rattle.lookup.specs.Lookup.{namesKind};
 ghost use Rattle.cells.specs.Mirrors.{Wrote, wrote, listed};
-ghost use Rattle.grafts.specs.Grafts.{kidRow, stops, onwardIn, reachFrom, IsRow, Copied, Blank, NoneFrom, rowAt, shareRow, newBranch, putChild, putBelow, graftFrom};
+ghost use Rattle.grafts.specs.Grafts.{stops, onwardIn, reachFrom, IsRow, Blank, NoneFrom, rowAt, shareRow, newBranch, putChild, putBelow, graftFrom};
 
 // The kind of a branch cell.
 const BRANCH: u64 = 0;
@@ -96,27 +97,26 @@ pub fn extent(a: &[u64], z: Shape, hash: u64, replaced: bool, root: u64) -> Reac
     }
 }
 
-// The children of a branch, each `gap` places further up in the row, in the places from `from` to `to`.
-fn load_part(a: &[u64], z: Shape, r: u64, gap: u64, from: u64, to: u64, row: &mut [u64])
-    requires { ⌜ Lent z (now a) ⌝ }
-    requires { ⌜ (namesKind z 0 r ≡ true) × (length (now row) ≡ 64) × (gap ≤ from) × (to ≤ z .degree) ⌝ }
-    ensures { λ _. ⌜ Copied (kidRow z (columns z (now (a .entry))) r) gap from to (now (row .entry)) (now (row .exit)) ⌝ }
+// How many places a child goes up in a row: those behind the place of the new one by the gap.
+fn rise(at: u64, gap: u64, k: u64) -> u64
+    ensures { λ n. ⌜ n ≡ cond (ltb at k) gap 0 ⌝ }
 {
-    let mut k = from;
-    while k < to {
-        row[k as usize] = words::word(a, z, r, words::CHILDREN + k - gap);
-        k += 1;
-    }
+    if at < k { gap } else { 0 }
 }
 
-// The children of a branch, with the place `at` left out, in a row that is all 0 before.
+// The children of a branch in a row, with 0 at the place of the new one. One loop goes over all of them: two that copy words in
+// one piece each are slower, since a row is short and its words were just written.
 fn load_branch(a: &[u64], z: Shape, r: u64, at: u64, gap: u64, row: &mut [u64])
-    requires { ⌜ Lent z (now a) × Blank (now row) ⌝ }
+    requires { ⌜ Lent z (now a) × (length (now row) ≡ 64) ⌝ }
     requires { ⌜ (namesKind z 0 r ≡ true) × (at < z .degree) × (gap ≤ 1) ⌝ }
     ensures { λ _. ⌜ IsRow (z .degree) (rowAt z (columns z (now (a .entry))) r at gap 0) (now (row .exit)) ⌝ }
 {
-    load_part(a, z, r, 0, 0, at, &mut *row);
-    load_part(a, z, r, gap, at + 1, z.degree, row);
+    let mut k = 0;
+    while k < z.degree {
+        row[k as usize] = words::word(a, z, r, words::CHILDREN + k - rise(at, gap, k));
+        k += 1;
+    }
+    row[at as usize] = 0;
 }
 
 // A row with the children of a node, and with 0 where a child is put among them. The row is all 0 before.

@@ -83,7 +83,10 @@ fn is_in(a: &[u64], z: Shape, root: u64, entry: u64) -> bool
     let hash = words::word(a, z, entry, words::HASH);
     let key = words::word(a, z, entry, words::KEY);
     match lookup::find(a, z, lookup::descend(a, z, root, hash), hash, key) {
-        Hit::At(r) => words::word(a, z, r, words::VALUE) == words::word(a, z, entry, words::VALUE),
+        Hit::At(r) => {
+            let found = words::word(a, z, r, words::VALUE);
+            found == words::word(a, z, entry, words::VALUE)
+        }
         Hit::Nowhere => false,
     }
 }

@@ -15,7 +15,7 @@ is-branch-requires c κs = search needs
 load-branch-requires : tie.Need-load-branch-requires
 load-branch-requires c κs =
     let s = c .before .before .before .before .before in
-    (s .pre .0, (sym (c .before .before .is-branch .ensures) ∙ c .before .if1 .taken, s .pre .1 .0, s .pre .1 .1))
+    ((s .pre .0 .0, s .pre .0 .1 .long), (sym (c .before .before .is-branch .ensures) ∙ c .before .if1 .taken, s .pre .1 .0, s .pre .1 .1))
 
 same-length : tie.Need-same-length
 same-length c = search needs
