@@ -7,7 +7,7 @@ use mathlib.Core.Logic.{⊎-elim}
 use lib.Dec.{eqb, ltb}
 use borrow.Author.Tests.{eq-eqb, ne-eqb, lt-ltb, le-ltb}
 use native.Mathlib.Omega.{arith}
-use Rattle.cases.proofs.Cases.{split, eq?}
+use Rattle.cases.proofs.Cases.{eq?}
 use Rattle.counts.specs.Counts.{ind, sumTo}
 use Rattle.counts.proofs.CountLaws.{ind-same, ind-other, cnt-le}
 use Rattle.layout.specs.declared.Shape.{Shape}
@@ -34,10 +34,6 @@ entry-cell z i r l e = cell-named z 1 i r (omega arith) (omega (arith, cells-ent
 
 pub branch-cell : (z : Shape) (i r : ℕ) → i < z .branches → r ≡ reference 0 i → namesKind z 0 r ≡ true
 branch-cell z i r l e = cell-named z 0 i r (omega arith) (omega (arith, cells-branch z 0 refl)) e
-
-pub kind-none : (z : Shape) (k r : ℕ) → names z r ≡ false → namesKind z k r ≡ false
-unfolding namesKind
-kind-none z k r e = split (eqb (kindOf r) k) (λ t. rw (t, e)) (λ f. rw f)
 
 -- a branch's bitmap
 pub bitmap-word : (z : Shape) (a : List ℕ) (r : ℕ) → namesKind z 0 r ≡ true → word z a r 2 ≡ columns z a .plain r 0

@@ -1,6 +1,6 @@
 //! The words of many cells, for a loop over references of both kinds: how many cells there are of a kind, where they begin and
-//! how wide they are stand in a small table, which a reference's last bit picks from. Decided by a jump for each reference, the
-//! kind would cost more than the word.
+//! how wide they are stand in a small table, which a reference's last bit picks from. Decided anew for each reference, the kind
+//! takes more instructions than the word.
 use crate::Shape;
 use crate::words;
 ghost use mathlib.Core.Path.{_≡_};
@@ -11,16 +11,14 @@ ghost use Rattle.layout.specs.Layout.{kindOf, wordAt, names, has, Allowe
 ghost use Rattle.layout.specs.Columns.{word, setWord};
 ghost use Rattle.layout.specs.Table.{tableOf};
 
-// How many words the table has: three for each kind.
-pub const PLACES: usize = 6;
-
-// Where the numbers of cells, the offsets and the widths stand in it.
+// Where the numbers of cells, the offsets and the widths stand in the table, two words each.
 const CELLS: u64 = 0;
 
 const AT: u64 = 2;
 
 const WIDTHS: u64 = 4;
 
+// The table of a shape.
 pub fn of(z: Shape) -> [u64; 6]
     requires { ⌜ Allowed z ⌝ }
     ensures { λ t. ⌜ t ≡ tableOf z ⌝ }

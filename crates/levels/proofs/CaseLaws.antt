@@ -17,11 +17,10 @@ use Rattle.layout.specs.Layout.{kindOf, cellOf, names, Allowed}
 use Rattle.layout.specs.Columns.{State, columns}
 use Rattle.layout.proofs.OffsetLaws.{names-says, cells-branch}
 use Rattle.lookup.specs.Lookup.{namesKind}
-use Rattle.lookup.proofs.FindLaws.{kind-is, kind-other}
+use Rattle.lookup.proofs.FindLaws.{kind-is, kind-other, kind-none}
 use Rattle.audits.specs.Audits.{allFrom, noneFrom, isLive}
 use Rattle.audits.proofs.AllLaws.{all-on}
 use Rattle.audits.proofs.LiveLaws.{live-is, live-cell}
-use Rattle.audits.proofs.StepLaws.{kind-none}
 use Rattle.levels.specs.declared.Seen.{Seen}
 use Rattle.levels.specs.declared.Seen.the-variants.{Fault, Under}
 use Rattle.levels.specs.Levels.{onSeen, leadIn, sizeIn, seenEntry, seeBy, samePrefix, fits, closed, ended, branchBy, seeFrom, seeAt, isAt, sizeIs, rootRight, slotRight, kept, Known}

@@ -29,6 +29,10 @@ module _ (z : Shape) (k r : ℕ) where
   unfolding namesKind
   kind-is n e = rw (eq-eqb (kindOf r) k e, n)
 
+  pub kind-none : names z r ≡ false → namesKind z k r ≡ false
+  unfolding namesKind
+  kind-none e = split (eqb (kindOf r) k) (λ t. rw (t, e)) (λ f. rw f)
+
   pub kind-other : (kindOf r ≡ k → ⊥) → namesKind z k r ≡ false
   unfolding namesKind
   kind-other ne = rw (ne-eqb (kindOf r) k ne)

@@ -4,27 +4,22 @@ use mathlib.Core.Path.{_≡_, refl}
 use mathlib.Core.Bool.{true, false}
 use mathlib.Core.List.{List}
 use native.Mathlib.Omega.{arith}
-use lib.Dec.{eqb}
 use borrow.Author.Tests.{eqb-true, eq-eqb, ne-eqb, lt-ltb, le-ltb}
-use Rattle.cases.proofs.Cases.{split, both}
+use Rattle.cases.proofs.Cases.{both}
 use Rattle.layout.specs.declared.Shape.{Shape}
 use Rattle.layout.specs.Layout.{kindOf, names}
 use Rattle.layout.specs.Columns.{State, word, refs, columns}
 use Rattle.layout.proofs.OffsetLaws.{names-low}
 use Rattle.layout.proofs.ColumnLaws.{kids-branch, kids-entry}
 use Rattle.lookup.specs.Lookup.{namesKind}
-use Rattle.lookup.proofs.FindLaws.{kind-says}
+use Rattle.lookup.proofs.FindLaws.{kind-says, kind-none}
 use Rattle.cells.specs.Mirrors.{unshareWords, takeOutWords, giveBackWords}
 use Rattle.releases.specs.Releases.{isLast, lessWords, chainFrom, rowFrom, atPlace, releaseFrom}
 
 -- NO CELL
-pub unnamed-kind : (z : Shape) (k r : ℕ) → names z r ≡ false → namesKind z k r ≡ false
-unfolding namesKind
-unnamed-kind z k r e = split (eqb (kindOf r) k) (λ t. rw (t, e)) (λ f. rw f)
-
 -- 0 names none
 pub none-kind : (z : Shape) (k r : ℕ) → r ≡ 0 → namesKind z k r ≡ false
-none-kind z k r e = unnamed-kind z k r (names-low z r (omega arith))
+none-kind z k r e = kind-none z k r (names-low z r (omega arith))
 
 -- THE ROWS OF A CELL
 pub entry-place : (z : Shape) (r : ℕ) → namesKind z 1 r ≡ true → 0 < refs z r

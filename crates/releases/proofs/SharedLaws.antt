@@ -16,11 +16,11 @@ use Rattle.layout.specs.Columns.{State, word, kidPlace, columns, setWord}
 use Rattle.layout.proofs.StoreLaws.{word-in}
 use Rattle.layout.proofs.ColumnLaws.{has-branch, kid-in}
 use Rattle.lookup.specs.Lookup.{namesKind}
-use Rattle.lookup.proofs.FindLaws.{kind-says, kind-is, kind-other}
+use Rattle.lookup.proofs.FindLaws.{kind-says, kind-is, kind-other, kind-none}
 use Rattle.cells.specs.Mirrors.{unshareWords, takeOutWords}
 use Rattle.cells.proofs.StepColumns.{take-out-columns}
 use Rattle.releases.specs.Releases.{RowGoesOn, atPlace, releaseFrom, comesTo, isShared}
-use Rattle.releases.proofs.CaseLaws.{unnamed-kind, none-kind, branch-place, last-not, less-shared, place-says, place-none, release-entry, release-none}
+use Rattle.releases.proofs.CaseLaws.{none-kind, branch-place, last-not, less-shared, place-says, place-none, release-entry, release-none}
 use Rattle.releases.proofs.StepLaws.{chain-shared, row-next, release-shared}
 
 -- THE TEST
@@ -35,7 +35,7 @@ all-of false = refl
 module _ (z : Shape) (σ : State) (n t r : ℕ) where
   pub unnamed-not-shared : names z r ≡ false → false ≡ isShared z σ n t r
   unfolding isShared atPlace
-  unnamed-not-shared e = rw (unnamed-kind z 1 r e, unnamed-kind z 0 r e, ← none-of (ltb 0 n))
+  unnamed-not-shared e = rw (kind-none z 1 r e, kind-none z 0 r e, ← none-of (ltb 0 n))
 
   pub once-not-shared : σ .count r ≤ 1 → false ≡ isShared z σ n t r
   unfolding isShared

@@ -9,8 +9,9 @@
 //! - `index_from_hash` answers the segment at a depth, that the hash is exhausted there, or that there is no such
 //!   degree.
 //!
-//! The laws in proofs/TableLaws.antt say what the rows have in common, those in proofs/SegmentLaws.antt that segments
-//! fit their branch and determine a hash, and those in proofs/IndexLaws.antt which depths have a segment.
+//! The laws in proofs/TableLaws.antt say what the rows have in common, those in proofs/RowLaws.antt how a row is computed,
+//! those in proofs/SegmentLaws.antt that segments fit their branch and determine a hash, and those in
+//! proofs/IndexLaws.antt which depths have a segment.
 
 ghost use mathlib.Core.Path.{_≡_};
 ghost use Prim.Native.Nat.{_*_, _/_, _%_, _^_, _≤_, _<_};

@@ -1,6 +1,5 @@
 -- `segments::degree_row` meets its contract: a degree of the table is a power of two whose exponent is its bits, and the columns have
 -- the rest of the row. Assumes nothing.
-use Prim.Native.Nat.{_^_}
 use native.Mathlib.Omega.{arith}
 use mathlib.Core.Path.{refl, ap, sym, _∙_}
 use mathlib.Core.Logic.{inl, inr}

@@ -5,9 +5,9 @@ use borrow.Author.Needs.{needs}
 use borrow.Author.Tests.{not-true, not-false}
 use Rattle.layout.specs.Columns.{columns}
 use Rattle.layout.proofs.ColumnLaws.{has-low}
-use Rattle.lookup.proofs.FindLaws.{kind-is, kind-other}
+use Rattle.lookup.proofs.FindLaws.{kind-is, kind-other, kind-none}
 use Rattle.audits.specs.Audits.{walk}
-use Rattle.audits.proofs.StepLaws.{kind-none, walk-not, walk-used, walk-on, walk-over}
+use Rattle.audits.proofs.StepLaws.{walk-not, walk-used, walk-on, walk-over}
 use Rattle.audits.proofs.free.ends_after.Statement.{statement}
 use Rattle.audits.proofs.free.ends_after.Tie as tie
 
