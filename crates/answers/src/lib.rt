@@ -4,6 +4,8 @@
 //! A caller may rely on this of any bytes: `read_line` reads the line that `line_at` of specs/Lines.antt says, and the
 //! next line begins behind it and not behind the text, so that a loop over the lines ends.
 
+#![tactic(auto)]
+
 ghost use Rattle.std.specs.Prelude.{◌≡◌, ◌≤◌, ◌<◌, length};
 ghost use Rattle.answers.specs.Lines.{digit_of, broken_of, kept_of, closed_of, longer_of, next_of, read_of, start, bare_of, behind_of, line_at};
 
@@ -11,7 +13,7 @@ ghost use Rattle.answers.specs.Lines.{digit_of, broken_of, kept_of, closed_of, l
 const MOST: usize = 8;
 
 // A line: its letter, its numbers in their order, and where the next line begins.
-#[derive(Drop)]
+#[derive(Clone, Copy)]
 pub struct Line {
     pub letter: u8,
     pub count: usize,
@@ -20,7 +22,7 @@ pub struct Line {
 }
 
 // The numbers of a line as far as it was read: those that have ended, and the one that may have further digits.
-#[derive(Drop)]
+#[derive(Clone, Copy)]
 struct Numbers {
     count: usize,
     values: [u64; 8],

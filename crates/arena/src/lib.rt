@@ -7,3 +7,5 @@
 //! Read specs/Shows.antt (what a reference and an edition show), then specs/Sound.antt, and specs/Holds.antt, which the
 //! calls' contracts speak with. A proof works with the local form (specs/Local.antt), in which counts are over the whole
 //! arena and some references may be in hand; that the two are equivalent is in proofs/Equivalent.antt.
+
+#![tactic(auto)]

@@ -1,7 +1,7 @@
 //! The edges of the three sizes, and which of several faults format names.
 use shown::answer;
 
-#[derive(Drop)]
+#[derive(Clone, Copy)]
 struct Sizes {
     branches: u64,
     entries: u64,
@@ -9,7 +9,7 @@ struct Sizes {
 }
 
 // Which of the sizes is tried. The other two are 1.
-#[derive(Drop)]
+#[derive(Clone, Copy)]
 enum Tried {
     Branches,
     Entries,

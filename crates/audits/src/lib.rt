@@ -5,6 +5,8 @@
 //! of one cell, a walk along a free chain ends after as many cells as are free, and the search for a key that stands twice
 //! ends after as many entries as the arena has.
 
+#![tactic(auto)]
+
 pub mod branches;
 pub mod entries;
 pub mod free;

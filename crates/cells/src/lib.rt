@@ -6,13 +6,15 @@
 //! inside the arena, and on a sound arena each is a step that keeps counts, free chains and what every edition shows
 //! (proofs/Meaning.antt).
 
+#![tactic(auto)]
+
 pub mod fill;
 pub mod free;
 pub mod shares;
 pub mod slots;
 
 // The lowest slot in which no edition stands.
-#[derive(Drop)]
+#[derive(Clone, Copy)]
 pub enum Slot {
     At(u64),
     NoneFree,

@@ -5,6 +5,8 @@
 //! A caller may rely on this: on any words each of them writes what its mirror in specs/Chains.antt says and stays inside
 //! the arena, and answers 0 where no cell could be taken; what it means on a sound arena is in proofs/Meaning.antt.
 
+#![tactic(auto)]
+
 ghost use Rattle.std.specs.Prelude.{◌≡◌, true};
 ghost use Rattle.layout.specs.Layout.{Lent};
 ghost use Rattle.layout.specs.Columns.{columns};

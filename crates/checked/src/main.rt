@@ -2,6 +2,8 @@
 //! leaves are those of the cells in use. On small arenas a second decision of soundness, which is by reachability and plainly
 //! written, agrees each time. It stands on `shelf` and on `reaches` and prints what the calls answer; the file stdout beside it
 //! is what it has to print.
+
+#![tactic(auto)]
 mod keys;
 mod run;
 mod runs;

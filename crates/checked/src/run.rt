@@ -8,7 +8,7 @@ pub const SLOTS: u64 = 8;
 
 // Where a run stands: the edition that the next update is made from; how many updates were done, how many were to remove a key
 // that is not there, and how often there was no room. Of the checks, how many found a sound arena; and all that should not be.
-#[derive(Drop)]
+#[derive(Clone, Copy)]
 pub struct Run {
     pub edition: u64,
     pub done: u64,

@@ -2,6 +2,8 @@
 //! header first. What it promises is in specs/Terms.antt; that its tests together decide soundness is
 //! proofs/CheckLaws.antt.
 
+#![tactic(auto)]
+
 ghost use Rattle.std.specs.Prelude.{length, ◌≤◌};
 ghost use Rattle.layout.specs.Header.{Header};
 ghost use Rattle.tallies.specs.Tallies.{work_words};

@@ -9,7 +9,7 @@ const WORDS: usize = 1700;
 const WORK: usize = 80;
 
 // How many arenas were tried, how many check called sound, and how often the two decisions differed.
-#[derive(Drop)]
+#[derive(Clone, Copy)]
 pub struct Tried {
     pub arenas: u64,
     pub sound: u64,

@@ -1,6 +1,8 @@
 //! The call that lets an edition go, where the header was seen to be right: drop. A layer of the shelf, whose public calls
 //! read the header first.
 
+#![tactic(auto)]
+
 ghost use Rattle.std.specs.Prelude.{◌≡◌, ◌<◌};
 ghost use Rattle.layout.specs.Layout.{Lent};
 ghost use Rattle.replies.specs.Answers.{dropped};

@@ -1,6 +1,8 @@
 //! An answer as one struct of four numbers, for callers in C and Rust: document 01's number, and up to three values, zeros where
 //! there is none. A layer of the shelf, between the public calls and their exports. The definition that flattens an answer is
 //! specs/Answers.antt of `replies`; specs/Flat.antt says how a call that answers the struct is stated.
+
+#![tactic(auto)]
 ghost use Rattle.std.specs.Prelude.{◌≡◌};
 ghost use Rattle.replies.specs.Answers.{answer, refused, formatted, made, updated, counted, in_use_answer, dropped, checked, found, compared};
 ghost use Rattle.flat.specs.Flat.{held};
@@ -11,7 +13,7 @@ use replies::{
 
 // What C sees of an answer.
 #[repr(C)]
-#[derive(Drop)]
+#[derive(Clone, Copy)]
 pub struct Flat {
     pub number: u64,
     pub a: u64,

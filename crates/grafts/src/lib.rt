@@ -7,6 +7,8 @@
 //! A caller may rely on this: on any words a graft goes no deeper than the degree has depths, writes what its mirror in
 //! specs/Grafts.antt says and stays inside the arena, and answers 0 where no cell could be taken.
 
+#![tactic(auto)]
+
 pub mod kids;
 
 ghost use Rattle.std.specs.Prelude.{◌≡◌, true, cond, ◌-◌, ◌≤◌, ◌<◌, ltb, length};
@@ -25,7 +27,7 @@ use sparse_array::Place;
 const BRANCH: u64 = 0;
 
 // Where the path of a hash goes on from a node.
-#[derive(Drop)]
+#[derive(Clone, Copy)]
 pub enum Onward {
     Child(u64),
     Missing,
@@ -33,7 +35,7 @@ pub enum Onward {
 
 // How many branches the path of a new entry has, and which chain stands at its end already: 0 where none does, and where
 // the entry takes the place of a single one.
-#[derive(Drop)]
+#[derive(Clone, Copy)]
 pub struct Reach {
     pub branches: u64,
     pub behind: u64,

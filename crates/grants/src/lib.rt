@@ -3,6 +3,8 @@
 //! the two. The call that they have in common, its tests in their order, is in specs/Rooms.antt, and what such a call promises in
 //! specs/Terms.antt.
 
+#![tactic(auto)]
+
 ghost use Rattle.std.specs.Prelude.{◌≡◌, ◌<◌};
 ghost use Rattle.layout.specs.Layout.{Lent};
 ghost use Rattle.cells.specs.Mirrors.{wrote};
@@ -15,7 +17,7 @@ use layout::{Shape, words};
 use replies::{Refusal, Updated};
 
 // The slot for a new edition, or why there is no room for it.
-#[derive(Drop)]
+#[derive(Clone, Copy)]
 pub enum Room {
     At(u64),
     Refused(Refusal),

@@ -3,6 +3,8 @@
 //! The Rust's growing stack is a fixed array of places here, lent by whoever walks. A caller may rely on this, for any
 //! words: a walk visits no more cells than the arena has, so no damage can make it go on without end.
 
+#![tactic(auto)]
+
 ghost use Rattle.std.specs.Prelude.{◌≡◌, true, ◌∷◌, suc, ◌≤◌, ◌<◌, length};
 ghost use Rattle.layout.specs.Layout.{Lent};
 ghost use Rattle.layout.specs.Columns.{columns};
@@ -21,7 +23,7 @@ const BASE: u64 = 128;
 
 // Where a walk is: the cell that it looks at next, how many places of its stack are taken, and how many cells it may
 // still visit.
-#[derive(Drop)]
+#[derive(Clone, Copy)]
 pub struct Iter {
     pub at: u64,
     pub depth: usize,

@@ -13,6 +13,8 @@
 //! - different words have different offsets, all inside the slice (proofs/OffsetLaws.antt), and a store changes one
 //!   column at one row (proofs/ColumnLaws.antt).
 
+#![tactic(auto)]
+
 pub mod format;
 pub mod header;
 pub mod table;
@@ -20,7 +22,7 @@ pub mod words;
 
 // What the header says and no call but format changes: the degree with its row in the table, how many words a slot has,
 // and how many slots, branch cells and entry cells there are.
-#[derive(Drop)]
+#[derive(Clone, Copy)]
 pub struct Shape {
     pub degree: u64,
     pub bits: u64,
@@ -32,7 +34,7 @@ pub struct Shape {
 }
 
 // What a degree and three sizes make.
-#[derive(Drop)]
+#[derive(Clone, Copy)]
 pub enum Shaped {
     Fits(Shape),
     BadDegree,
@@ -40,7 +42,7 @@ pub enum Shaped {
 }
 
 // What words 0 to 7 and the slice's length say.
-#[derive(Drop)]
+#[derive(Clone, Copy)]
 pub enum Heading {
     Right(Shape),
     Wrong,

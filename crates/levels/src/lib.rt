@@ -5,6 +5,8 @@
 //! The work words are the memory: one for each branch, with what is below it. So each branch is looked at once in full, and at
 //! its depth once for each depth of the degree. On any words nothing but these is written.
 
+#![tactic(auto)]
+
 ghost use Rattle.std.specs.Prelude.{◌≡◌, true, suc, ◌*◌, ◌^◌, ◌≤◌, ◌<◌, length};
 ghost use Rattle.layout.specs.Layout.{reference, Lent};
 ghost use Rattle.layout.specs.Columns.{columns};
@@ -16,7 +18,7 @@ use layout::{Shape, words};
 use lookup::links;
 
 // What stands below a reference: the reference of the leftmost entry, and how many entries there are.
-#[derive(Drop)]
+#[derive(Clone, Copy)]
 pub enum Seen {
     Fault,
     Under { lead: u64, size: u64 },

@@ -1,6 +1,8 @@
 //! The calls that look, where the header was seen to be right: size, cells in use, get, list, equal. None writes a word of
 //! the arena. A layer of the shelf, whose public calls read the header first.
 
+#![tactic(auto)]
+
 ghost use Rattle.std.specs.Prelude.{◌≡◌, ◌<◌};
 ghost use Rattle.layout.specs.Layout.{Lent};
 ghost use Rattle.replies.specs.Answers.{counted, found, compared, in_use_answer};

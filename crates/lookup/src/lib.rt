@@ -4,6 +4,8 @@
 //! A caller may rely on this, for any words: a lookup enters at most as many branches as the degree has depths, looks at
 //! no more entries than the arena has, and writes nothing. `find` is the one search of a chain.
 
+#![tactic(auto)]
+
 pub mod links;
 
 ghost use Rattle.std.specs.Prelude.{◌≡◌, true};
@@ -16,13 +18,13 @@ use layout::{Shape, words};
 use sparse_array::Place;
 
 // Where the entry with a hash and a key stands.
-#[derive(Drop)]
+#[derive(Clone, Copy)]
 pub enum Hit {
     At(u64),
     Nowhere,
 }
 
-#[derive(Drop)]
+#[derive(Clone, Copy)]
 pub enum Looked {
     Value(u64),
     Missing,

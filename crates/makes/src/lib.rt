@@ -1,6 +1,8 @@
 //! The calls that make an arena or an edition, where the header was seen to be right: format, a new edition, a share. A
 //! layer of the shelf, whose public calls read the header first.
 
+#![tactic(auto)]
+
 ghost use Rattle.std.specs.Prelude.{◌≡◌, ◌<◌};
 ghost use Rattle.layout.specs.Layout.{Lent};
 ghost use Rattle.replies.specs.Answers.{made};

@@ -12,7 +12,7 @@ const WORDS: usize = 997;
 const SLOTS: u64 = 6;
 
 // The cells of an arena, how many editions are held in it, and in how many orders these can be dropped.
-#[derive(Drop)]
+#[derive(Clone, Copy)]
 pub struct Set {
     pub branches: u64,
     pub entries: u64,
@@ -21,7 +21,7 @@ pub struct Set {
 }
 
 // Branch cells and entry cells.
-#[derive(Drop)]
+#[derive(Clone, Copy)]
 struct Cells {
     branches: u64,
     entries: u64,

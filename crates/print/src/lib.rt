@@ -1,5 +1,7 @@
 //! What the programs print with: pieces of text and labelled numbers, to standard output. A layer of the programs, beside
 //! the shelf.
+
+#![tactic(auto)]
 use libc::STDOUT_FILENO;
 
 pub fn say(text: &[u8]) {

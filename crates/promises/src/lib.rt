@@ -6,3 +6,5 @@
 //! (SpendLaws, RoomLaws, over specs/Spends.antt); that no two results meet a contract (OnceLaws, and AlikeLaws over
 //! specs/Told.antt); what a program that only pretends would contradict (CheatLaws, over specs/Program.antt, and ProgramLaws);
 //! and what holds on any words (AnyLaws).
+
+#![tactic(auto)]

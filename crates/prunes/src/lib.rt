@@ -5,6 +5,8 @@
 //! A caller may rely on this: on any words a removal goes no deeper than the degree has depths, writes what its mirror in
 //! specs/Prunes.antt says and stays inside the arena, and answers 0 where no cell could be taken.
 
+#![tactic(auto)]
+
 ghost use Rattle.std.specs.Prelude.{◌≡◌, ◌-◌, ◌*◌, ◌^◌, ◌≤◌, ◌<◌, length};
 ghost use Rattle.sparse_array.specs.Bitmap.{bit};
 ghost use Rattle.layout.specs.Layout.{Lent};
@@ -19,7 +21,7 @@ use layout::{Shape, words};
 use lookup::links;
 
 // What is left of a node when an entry is taken out: nothing, a single, or more, with so many branches on the path.
-#[derive(Drop)]
+#[derive(Clone, Copy)]
 pub enum Left {
     Nothing,
     Single,

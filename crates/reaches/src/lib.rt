@@ -2,6 +2,8 @@
 //! path in hand, each word that names a cell is followed, and the free chains are gone along with a mark for each cell. A layer
 //! of the programs, for arenas of at most 64 cells of each kind and 64 slots; nothing of the shelf is used.
 
+#![tactic(auto)]
+
 pub mod names;
 pub mod shape;
 pub mod shows;

@@ -2,7 +2,7 @@
 ghost use Rattle.std.specs.Prelude.{◌≤◌};
 
 // What a right header says; a degree of 0 where it is wrong.
-#[derive(Drop)]
+#[derive(Clone, Copy)]
 pub struct Frame {
     pub degree: u64,
     pub bits: u64,

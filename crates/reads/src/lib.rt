@@ -1,6 +1,8 @@
 //! What a walk over an edition's entries is for: a listing and a comparison. A layer of the shelf, for arenas whose
 //! header was seen to be right.
 
+#![tactic(auto)]
+
 ghost use Rattle.std.specs.Prelude.{◌≡◌, true, ◌/◌, length, take, drop};
 ghost use Rattle.layout.specs.Layout.{Lent};
 ghost use Rattle.layout.specs.Columns.{columns};

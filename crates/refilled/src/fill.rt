@@ -6,7 +6,7 @@ use shown::answer;
 
 // Where the updates stand: the edition that the last one made, the one that the tenth made, and the key that is inserted next;
 // how many there were, and how many were to remove a key that is not there. What ended them is a number, 0 until then.
-#[derive(Drop)]
+#[derive(Clone, Copy)]
 pub struct Run {
     pub edition: u64,
     pub tenth: u64,

@@ -3,7 +3,7 @@ use shelf::Dropped;
 use shown::{answer, lent};
 
 // How many editions were dropped, and the cells that they freed.
-#[derive(Drop)]
+#[derive(Clone, Copy)]
 pub struct Freed {
     pub editions: u64,
     pub branches: u64,

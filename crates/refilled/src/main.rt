@@ -2,6 +2,8 @@
 //! calls. After each round the edition that is kept lists as before, and in use is what it alone reaches; at the end nothing
 //! is, and the first round comes out as it did. It stands on `shelf` and prints what the calls answer; the file stdout beside
 //! it is what it has to print.
+
+#![tactic(auto)]
 mod fill;
 mod kept;
 mod keys;

@@ -4,7 +4,7 @@ use crate::{fill, kept};
 use shown::answer;
 
 // Which edition of a round is kept: the one that it began with, the tenth, or the last.
-#[derive(Drop)]
+#[derive(Clone, Copy)]
 enum Keep {
     First,
     Tenth,

@@ -5,6 +5,8 @@
 //! arena, and enters no cell twice: a branch is entered only where its depth is its place, and stays counted until all of its
 //! words are taken out and it is given back; an entry is given back before the next one is looked at.
 
+#![tactic(auto)]
+
 ghost use Rattle.std.specs.Prelude.{◌≡◌, true, ◌-◌, ◌≤◌, ◌<◌};
 ghost use Rattle.layout.specs.Layout.{names, Lent};
 ghost use Rattle.layout.specs.Columns.{word, columns};

@@ -4,6 +4,8 @@
 //! It keeps the old edition. First a pass that only reads: it finds the key and what will be left on its path. Then the chain
 //! without the entry is made, with copies of the entries before it, and the path above it; everything else is shared.
 
+#![tactic(auto)]
+
 ghost use Rattle.std.specs.Prelude.{◌≡◌, true, ◌<◌};
 ghost use Rattle.layout.specs.Layout.{Lent};
 ghost use Rattle.layout.specs.Columns.{columns};
@@ -22,7 +24,7 @@ use replies::{Refusal, Updated};
 // What the reading pass finds: the edition's root, the size of the new edition; the chain at the end of the path, how many of
 // its entries stand before the one that is removed, and what stands behind it; how many branches will be left on the path;
 // whether nothing at all will be left; and whether the key is there.
-#[derive(Drop)]
+#[derive(Clone, Copy)]
 pub struct Cut {
     pub root: u64,
     pub size: u64,

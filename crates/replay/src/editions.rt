@@ -5,7 +5,7 @@ use segments::Index;
 
 // What was read so far. `listing` is how many entries of a listing the next lines have still to show, `last` the hash of
 // the one before them, where there is one, and `place` where the next stands in what the shelf has listed.
-#[derive(Drop)]
+#[derive(Clone, Copy)]
 pub struct Tally {
     degree: u64,
     pub entries: u64,
@@ -16,7 +16,7 @@ pub struct Tally {
 }
 
 // The tally after a line, and whether the line is right.
-#[derive(Drop)]
+#[derive(Clone, Copy)]
 pub struct Seen {
     pub tally: Tally,
     pub right: bool,

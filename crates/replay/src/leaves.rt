@@ -4,7 +4,7 @@ use segments::Index;
 use sparse_array::{Changed, Found};
 
 // What was replayed so far: the bitmap of the array, and which of its words the next line shows.
-#[derive(Drop)]
+#[derive(Clone, Copy)]
 pub struct Tally {
     bitmap: u64,
     place: usize,
@@ -12,7 +12,7 @@ pub struct Tally {
 }
 
 // The tally after a line, and whether the line came out right.
-#[derive(Drop)]
+#[derive(Clone, Copy)]
 pub struct Seen {
     pub tally: Tally,
     pub right: bool,
@@ -20,7 +20,7 @@ pub struct Seen {
 
 // An answer that may be missing, as the stored answers write it: 1 and the answer, or two zeros. A refusal, which the
 // crate has not, is 2.
-#[derive(Drop)]
+#[derive(Clone, Copy)]
 struct Maybe {
     there: u64,
     value: u64,

@@ -2,6 +2,8 @@
 //! how many lines came out otherwise. The answers on the leaves of the shelf are compared with the leaves themselves. The
 //! calls on editions are made on the shelf, over an arena of words. It also sees that each file is whole, and that what the
 //! crate lists stands in the order of our segments.
+
+#![tactic(auto)]
 mod editions;
 mod leaves;
 mod score;
@@ -12,14 +14,14 @@ use answers::Line;
 use score::Score;
 
 // What a file is about, and how far it was replayed.
-#[derive(Drop)]
+#[derive(Clone, Copy)]
 enum File {
     Leaves(leaves::Tally),
     Editions(editions::Tally),
 }
 
 // The file after a line, and whether the line came out right.
-#[derive(Drop)]
+#[derive(Clone, Copy)]
 struct After {
     file: File,
     right: bool,

@@ -1,7 +1,7 @@
 //! How a file of stored answers came out: how many calls and lines it has, how many of the lines are wrong, and whether the
 //! last line says the same number of calls.
 
-#[derive(Drop)]
+#[derive(Clone, Copy)]
 pub struct Score {
     lines: u64,
     calls: u64,

@@ -2,11 +2,13 @@
 //! shelf, below every call. An answer's number and values are in specs/Answers.antt, what a call leaves in
 //! specs/Outcomes.antt, and proofs/Tables.antt says how "given exactly when" is stated of a call.
 
+#![tactic(auto)]
+
 ghost use Rattle.std.specs.Prelude.{◌≡◌};
 ghost use Rattle.replies.specs.Answers.{number_of};
 
 // Why a call is refused, with document 01's words for its numbers 1 to 12.
-#[derive(Drop)]
+#[derive(Clone, Copy)]
 pub enum Refusal {
     BadDegree,
     BadSizes,
@@ -44,21 +46,21 @@ impl Refusal {
     }
 }
 
-#[derive(Drop)]
+#[derive(Clone, Copy)]
 pub enum Formatted {
     Done,
     Refused(Refusal),
 }
 
 // A call that puts an edition in a slot answers the slot's number.
-#[derive(Drop)]
+#[derive(Clone, Copy)]
 pub enum Made {
     Edition(u64),
     Refused(Refusal),
 }
 
 // An update puts an edition in a slot, and takes cells of each kind.
-#[derive(Drop)]
+#[derive(Clone, Copy)]
 pub enum Updated {
     Edition {
         edition: u64,
@@ -68,40 +70,40 @@ pub enum Updated {
     Refused(Refusal),
 }
 
-#[derive(Drop)]
+#[derive(Clone, Copy)]
 pub enum Counted {
     Entries(u64),
     Refused(Refusal),
 }
 
-#[derive(Drop)]
+#[derive(Clone, Copy)]
 pub enum Found {
     Value(u64),
     Refused(Refusal),
 }
 
-#[derive(Drop)]
+#[derive(Clone, Copy)]
 pub enum Compared {
     Equal,
     Different,
     Refused(Refusal),
 }
 
-#[derive(Drop)]
+#[derive(Clone, Copy)]
 pub enum InUse {
     Cells { branches: u64, entries: u64 },
     Refused(Refusal),
 }
 
 // A drop answers how many cells of each kind it freed.
-#[derive(Drop)]
+#[derive(Clone, Copy)]
 pub enum Dropped {
     Freed { branches: u64, entries: u64 },
     Refused(Refusal),
 }
 
 // What a check answers: document 01's number is 0 for a sound arena.
-#[derive(Drop)]
+#[derive(Clone, Copy)]
 pub enum Checked {
     Sound,
     Refused(Refusal),

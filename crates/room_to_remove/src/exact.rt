@@ -6,7 +6,7 @@ use shown::{answer, entries, lent, steps};
 
 // An entry that is taken out of an edition, behind so many steps of the table; and, where `longer` says so, behind an insert
 // that puts key 6 in front of the chain of K5.
-#[derive(Drop)]
+#[derive(Clone, Copy)]
 struct Row {
     steps: u64,
     longer: bool,

@@ -1,6 +1,8 @@
 //! Room for a removal, through the public calls: removals in arenas with exactly the cells needed and with too few, and all
 //! that remove refuses, in which order and with no word changed. It stands on `shelf` and prints what the calls answer; the
 //! file stdout beside it is what it has to print.
+
+#![tactic(auto)]
 mod exact;
 mod refusals;
 

@@ -13,19 +13,21 @@
 //! those in proofs/SegmentLaws.antt that segments fit their branch and determine a hash, and those in
 //! proofs/IndexLaws.antt which depths have a segment.
 
+#![tactic(auto)]
+
 ghost use Rattle.std.specs.Prelude.{◌≡◌, ◌*◌, ◌/◌, ◌%◌, ◌^◌, ◌≤◌, ◌<◌};
 ghost use Rattle.segments.specs.Segments.{segment, row_of, index_of};
 
 // The row of a degree: the bits of a segment, the depths at which branches stand, and the bits that are left
 // for the last of them.
-#[derive(Drop)]
+#[derive(Clone, Copy)]
 pub enum DegreeRow {
     Found { bits: u64, depths: u64, last: u64 },
     NotInTable,
 }
 
 // The place of a hash among the children of a branch at some depth.
-#[derive(Drop)]
+#[derive(Clone, Copy)]
 pub enum Index {
     At(u64),
     Exhausted,

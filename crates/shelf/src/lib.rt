@@ -7,6 +7,8 @@
 //! `drops` and `looks`; what that means on a sound arena is in its contract (specs/Terms.antt there). Check is stated by
 //! its contract alone, in the crate `checks`. The answers are those of the crate `replies`.
 
+#![tactic(auto)]
+
 ghost use Rattle.makes.specs.Terms.{Formats, MakesNew, Shares};
 ghost use Rattle.updates.specs.Terms.{Inserts, Changes};
 ghost use Rattle.removes.specs.Terms.{Removes};

@@ -4,6 +4,8 @@
 //! No export has a precondition. Its contract is that of the public call, with the answer flattened into one struct by the
 //! definition in specs/Answers.antt of `replies`: `Says` is that sentence, in specs/Flat.antt of `flat`.
 
+#![tactic(auto)]
+
 ghost use Rattle.std.specs.Prelude.{◌≡◌};
 ghost use Rattle.replies.specs.Answers.{formatted, made, updated, counted, in_use_answer, dropped, checked, found, compared};
 ghost use Rattle.flat.specs.Flat.{held, Says};

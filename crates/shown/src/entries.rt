@@ -3,7 +3,7 @@
 // The hash of D and E.
 pub const CHAIN: u64 = 0x7000000000000008;
 
-#[derive(Drop)]
+#[derive(Clone, Copy)]
 pub struct Entry {
     pub hash: u64,
     pub key: u64,

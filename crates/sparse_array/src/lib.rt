@@ -8,6 +8,8 @@
 //! shorter than the bitmap says, and a new index for which the slice has no room; a refused call writes nothing; a
 //! granted call writes only packed words, and the one that `remove` gives up, which becomes 0.
 
+#![tactic(auto)]
+
 ghost use Rattle.std.specs.Prelude.{◌≡◌, ◌≤◌, ◌<◌, length};
 ghost use Rattle.sparse_array.specs.Bitmap.{below, size_of};
 ghost use Rattle.sparse_array.specs.Shift.{Inserted, TakenOut};
@@ -19,7 +21,7 @@ ghost use Rattle.sparse_array.specs.Changes.{Sets, Removes};
 pub const WIDTH: u64 = 64;
 
 // Where the word of a virtual index lies among the packed words.
-#[derive(Drop)]
+#[derive(Clone, Copy)]
 pub enum Place {
     At(usize),
     Nothing,
@@ -27,7 +29,7 @@ pub enum Place {
 }
 
 // What a call that reads finds.
-#[derive(Drop)]
+#[derive(Clone, Copy)]
 pub enum Found {
     Word(u64),
     Nothing,
@@ -35,7 +37,7 @@ pub enum Found {
 }
 
 // What a call that writes leaves: the bitmap that goes with the words from now on.
-#[derive(Drop)]
+#[derive(Clone, Copy)]
 pub enum Changed {
     Now(u64),
     Refused,

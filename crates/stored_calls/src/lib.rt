@@ -1,5 +1,7 @@
 //! A call of the stored answers, made on the shelf: what it answers, as document 01's number and three values. A layer of the
 //! programs that replay them, beside `answers`, which reads their lines.
+
+#![tactic(auto)]
 use flat::{
     Flat, of_compared, of_counted, of_dropped, of_formatted, of_found, of_made, of_updated, of_use,
 };

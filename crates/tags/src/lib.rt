@@ -8,11 +8,13 @@
 //!   definition `Is` gives the pair;
 //! - `key_1` answers `key1`, which no two pairs share.
 
+#![tactic(auto)]
+
 ghost use Rattle.std.specs.Prelude.{◌≡◌};
 ghost use Rattle.tags.specs.Tags.{within, class_of, key1};
 
 // What a tag is. A block is a byte: a creator's is its element, an element's is the high byte.
-#[derive(Drop)]
+#[derive(Clone, Copy)]
 pub enum Class {
     Public,
     Creator { block: u8 },

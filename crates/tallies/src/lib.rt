@@ -4,6 +4,8 @@
 //! A caller may rely on this, for any words: the arena is only read, and of the work words only those of the cells are
 //! written, a branch's first and then an entry's.
 
+#![tactic(auto)]
+
 ghost use Rattle.std.specs.Prelude.{◌≡◌, true, ◌^◌, ◌≤◌, ◌<◌, length};
 ghost use Rattle.counts.specs.Counts.{ind, sum_to, times};
 ghost use Rattle.layout.specs.Layout.{reference, cells_of, names, Allowed, Lent};

@@ -8,3 +8,5 @@
 //! computed). A caller may rely on the laws of proofs/MapLaws.antt (get, listing and size after each update),
 //! CellLaws.antt (which names are new and how many), EqualLaws.antt, RenameMaps.antt (names play no part),
 //! BuiltLaws.antt and DegreeLaws.antt (what can be built is what is canonical).
+
+#![tactic(auto)]

@@ -5,6 +5,8 @@
 //! are needed. Then the new entry is made, with copies of the chain entries before the one it takes the place of, and the
 //! path above it; everything else is shared.
 
+#![tactic(auto)]
+
 ghost use Rattle.std.specs.Prelude.{◌≡◌, true, ◌<◌};
 ghost use Rattle.layout.specs.Layout.{Lent};
 ghost use Rattle.layout.specs.Columns.{columns};
@@ -22,7 +24,7 @@ use replies::{Refusal, Updated};
 // What the reading pass finds: the edition's root, the size of the new edition; the chain at the end of the path, how many
 // of its entries stand before the one that is replaced, what will stand behind the new entry and these, and how long the new
 // chain is; how many branches the new path has; and whether an entry is replaced.
-#[derive(Drop)]
+#[derive(Clone, Copy)]
 pub struct Plan {
     pub root: u64,
     pub size: u64,
