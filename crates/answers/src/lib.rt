@@ -33,8 +33,8 @@ struct Numbers {
 
 // The value of a hexadecimal digit, or 16.
 fn digit(b: u8) -> u64
-    ensures value { result ≡ digit_of b }
-    ensures upper_bound { result ≤ 16 }
+    ensures answers { result ≡ digit_of b }
+    ensures at_most_16 { result ≤ 16 }
 {
     if b <= 57 {
         if 48 <= b {
@@ -141,9 +141,9 @@ fn read_numbers(part: &[u8]) -> Numbers
 // Where the line behind one that ends at `end` begins.
 fn behind(text: &[u8], end: usize) -> usize
     requires { end ≤ length text.now }
-    ensures value { result ≡ behind_of text.now end }
-    ensures lower_bound { end ≤ result }
-    ensures upper_bound { result ≤ length text.now }
+    ensures answers { result ≡ behind_of text.now end }
+    ensures not_before { end ≤ result }
+    ensures in_text { result ≤ length text.now }
 {
     if end < text.len() { end + 1 } else { end }
 }
@@ -163,9 +163,9 @@ fn bare(letter: u8, next: usize) -> Line
 // The line that begins at `at`, which is a place of the text.
 pub fn read_line(text: &[u8], at: usize) -> Line
     requires { at < length text.now }
-    ensures value { result ≡ line_at text.now at }
-    ensures at_lt_next { at < result.next }
-    ensures next_in_bounds { result.next ≤ length text.now }
+    ensures answers { result ≡ line_at text.now at }
+    ensures goes_on { at < result.next }
+    ensures in_text { result.next ≤ length text.now }
 {
     let letter = text[at];
     let from = at + 1;

@@ -11,7 +11,7 @@ use lookup::links;
 // Whether a branch has no child from a place on.
 pub fn has_none_from(a: &[u64], z: Shape, r: u64, from: u64) -> bool
     requires lent { Lent z a.now }
-    requires from_le_degree { from ≤ z.degree }
+    requires in_row { from ≤ z.degree }
     ensures { result ≡ none_from ((columns z a.now).kid r) from (z.degree - from) }
 {
     let mut k = from;
@@ -26,7 +26,7 @@ pub fn has_none_from(a: &[u64], z: Shape, r: u64, from: u64) -> bool
 
 fn is_right(a: &[u64], z: Shape, r: u64) -> bool
     requires lent { Lent z a.now }
-    requires r_value { names_kind z 0 r ≡ true }
+    requires is_branch { names_kind z 0 r ≡ true }
     ensures { result ≡ branch_right z (columns z a.now) r }
 {
     if words::word(a, z, r, words::COUNT) != 0 {

@@ -18,7 +18,7 @@ fn is_one_more(m: u64, n: u64) -> bool
 // Whether an entry may stand before the one that `next` names.
 fn is_linked_to(a: &[u64], z: Shape, r: u64, next: u64) -> bool
     requires lent { Lent z a.now }
-    requires r_value { names_kind z 1 r ≡ true }
+    requires is_entry { names_kind z 1 r ≡ true }
     ensures { result ≡ linked_to z (columns z a.now) r next }
 {
     if !links::is_entry(z, next) {
@@ -38,7 +38,7 @@ fn is_linked_to(a: &[u64], z: Shape, r: u64, next: u64) -> bool
 
 fn is_linked(a: &[u64], z: Shape, r: u64) -> bool
     requires lent { Lent z a.now }
-    requires r_value { names_kind z 1 r ≡ true }
+    requires is_entry { names_kind z 1 r ≡ true }
     ensures { result ≡ linked z (columns z a.now) r }
 {
     let next = links::kid(a, z, r, 0);
@@ -51,8 +51,8 @@ fn is_linked(a: &[u64], z: Shape, r: u64) -> bool
 // An entry in use, or a free cell. All its words are read, so that it is known to hold 64-bit words.
 fn is_right(a: &[u64], z: Shape, r: u64) -> bool
     requires lent { Lent z a.now }
-    requires r_value { names_kind z 1 r ≡ true }
-    ensures value { result ≡ entry_right z (columns z a.now) r }
+    requires is_entry { names_kind z 1 r ≡ true }
+    ensures answers { result ≡ entry_right z (columns z a.now) r }
     ensures word64 { Word64 (entry_at (columns z a.now) r) }
 {
     let hash = words::word(a, z, r, words::HASH);
@@ -76,7 +76,7 @@ fn is_right(a: &[u64], z: Shape, r: u64) -> bool
 // Every entry cell.
 pub fn are_right(a: &[u64], z: Shape) -> bool
     requires { Lent z a.now }
-    ensures value { result ≡ entries_right z (columns z a.now) }
+    ensures answers { result ≡ entries_right z (columns z a.now) }
     ensures entries_fit { result ≡ true → EntriesFit z (columns z a.now) }
 {
     let mut i = 0;
@@ -92,7 +92,7 @@ pub fn are_right(a: &[u64], z: Shape) -> bool
 // Whether no entry behind this one has its hash and key.
 fn has_own_key(a: &[u64], z: Shape, r: u64) -> bool
     requires lent { Lent z a.now }
-    requires r_value { names_kind z 1 r ≡ true }
+    requires is_entry { names_kind z 1 r ≡ true }
     ensures { result ≡ key_right z (columns z a.now) r }
 {
     if words::word(a, z, r, words::COUNT) == 0 {

@@ -9,7 +9,7 @@ use layout::{Shape, words};
 // How many cells of a kind have a count of 0.
 fn count_free(a: &[u64], z: Shape, kind: u64) -> u64
     requires lent { Lent z a.now }
-    requires kind_bound { kind < 2 }
+    requires is_kind { kind < 2 }
     ensures { result ≡ idle z (columns z a.now) kind }
 {
     let cells = words::cells_of(z, kind);
@@ -28,7 +28,7 @@ fn count_free(a: &[u64], z: Shape, kind: u64) -> u64
 // not end.
 fn ends_after(a: &[u64], z: Shape, kind: u64, n: u64, first: u64) -> bool
     requires lent { Lent z a.now }
-    requires kind_bound { kind < 2 }
+    requires is_kind { kind < 2 }
     ensures { result ≡ walk z (columns z a.now) kind n first }
 {
     let mut r = first;
@@ -52,7 +52,7 @@ fn ends_after(a: &[u64], z: Shape, kind: u64, n: u64, first: u64) -> bool
 // The word that counts the cells of a kind in use, and the chain of the others.
 pub fn is_right(a: &[u64], z: Shape, kind: u64) -> bool
     requires lent { Lent z a.now }
-    requires kind_bound { kind < 2 }
+    requires is_kind { kind < 2 }
     ensures { result ≡ chain_right z (columns z a.now) kind }
 {
     let n = count_free(a, z, kind);

@@ -17,7 +17,7 @@ pub fn fill_entry(
     value: u64,
 )
     requires lent { Lent z a.old }
-    requires r_value { (names z r ≡ true) × (kind_of r ≡ 1) }
+    requires is_entry { (names z r ≡ true) × (kind_of r ≡ 1) }
     ensures { a.new ≡ fill_entry_words z a.old r length next hash key value }
 {
     words::set_word(&mut *a, z, r, words::MARK, length);
@@ -30,7 +30,7 @@ pub fn fill_entry(
 // The children of a branch, as many as the degree.
 fn fill_row(a: &mut [u64], z: Shape, r: u64, row: &[u64])
     requires lent { Lent z a.old }
-    requires r_value { (names z r ≡ true) × (kind_of r ≡ 0) × (z.degree ≤ length row.now) }
+    requires row_fills_branch { (names z r ≡ true) × (kind_of r ≡ 0) × (z.degree ≤ length row.now) }
     ensures { a.new ≡ row_words z r (listed row.now) z.degree a.old }
 {
     let mut k = 0;
@@ -42,7 +42,7 @@ fn fill_row(a: &mut [u64], z: Shape, r: u64, row: &[u64])
 
 pub fn fill_branch(a: &mut [u64], z: Shape, r: u64, depth: u64, bitmap: u64, row: &[u64])
     requires lent { Lent z a.old }
-    requires r_value { (names z r ≡ true) × (kind_of r ≡ 0) × (z.degree ≤ length row.now) }
+    requires row_fills_branch { (names z r ≡ true) × (kind_of r ≡ 0) × (z.degree ≤ length row.now) }
     ensures { a.new ≡ fill_branch_words z a.old r depth bitmap (listed row.now) }
 {
     words::set_word(&mut *a, z, r, words::MARK, depth);
@@ -53,7 +53,7 @@ pub fn fill_branch(a: &mut [u64], z: Shape, r: u64, depth: u64, bitmap: u64, row
 // A reference that a cell holds from now on at its place `k`.
 pub fn put_in(a: &mut [u64], z: Shape, r: u64, k: u64, v: u64)
     requires lent { Lent z a.old }
-    requires k_bound { k < refs z r }
+    requires has_ref { k < refs z r }
     ensures { a.new ≡ put_in_words z a.old r k v }
 {
     // An entry's next stands one place before where a branch's children begin.
@@ -63,9 +63,9 @@ pub fn put_in(a: &mut [u64], z: Shape, r: u64, k: u64, v: u64)
 // Reference `k` of a cell, which becomes 0: an entry's next, or one of a branch's children.
 pub fn take_out(a: &mut [u64], z: Shape, r: u64, k: u64) -> u64
     requires lent { Lent z a.old }
-    requires k_bound { k < refs z r }
-    ensures value { result ≡ (columns z a.old).kid r k }
-    ensures a_after { a.new ≡ take_out_words z a.old r k }
+    requires has_ref { k < refs z r }
+    ensures answers { result ≡ (columns z a.old).kid r k }
+    ensures leaves { a.new ≡ take_out_words z a.old r k }
 {
     let v = words::word(&*a, z, r, words::CHILDREN - r % 2 + k);
     put_in(a, z, r, k, 0);

@@ -10,7 +10,7 @@ use layout::{Shape, words};
 // other this keeps a cell that is in use from being written over.
 fn may_take(a: &[u64], z: Shape, kind: u64, r: u64) -> bool
     requires lent { Lent z a.now }
-    requires kind_bound { kind < 2 }
+    requires is_kind { kind < 2 }
     ensures { result ≡ takeable z a.now kind r }
 {
     if words::is_cell(z, r) {
@@ -31,7 +31,7 @@ fn may_take(a: &[u64], z: Shape, kind: u64, r: u64) -> bool
 // A cell that may be taken leaves its chain, with a count of 1 and all else 0.
 fn take_cell(a: &mut [u64], z: Shape, kind: u64, r: u64)
     requires lent { Lent z a.old }
-    requires kind_bound { (kind < 2) × (takeable z a.old kind r ≡ true) }
+    requires is_takeable { (kind < 2) × (takeable z a.old kind r ≡ true) }
     ensures { a.new ≡ cell_taken z a.old kind r }
 {
     let next = words::word(&*a, z, r, words::MARK);
@@ -45,9 +45,9 @@ fn take_cell(a: &mut [u64], z: Shape, kind: u64, r: u64)
 // The first free cell of a kind is taken. Answers its reference, or 0 where there is none to take.
 pub fn take(a: &mut [u64], z: Shape, kind: u64) -> u64
     requires lent { Lent z a.old }
-    requires kind_bound { kind < 2 }
-    ensures value { result ≡ taken_of z a.old kind }
-    ensures a_after { a.new ≡ take_words z a.old kind }
+    requires is_kind { kind < 2 }
+    ensures answers { result ≡ taken_of z a.old kind }
+    ensures leaves { a.new ≡ take_words z a.old kind }
 {
     let r = words::kind_word(&*a, z, words::FIRST_FREE, kind);
     if may_take(&*a, z, kind, r) {
@@ -61,7 +61,7 @@ pub fn take(a: &mut [u64], z: Shape, kind: u64) -> u64
 // The words of a cell that are no references become 0.
 fn blank(a: &mut [u64], z: Shape, r: u64)
     requires lent { Lent z a.old }
-    requires r_value { names z r ≡ true }
+    requires is_cell { names z r ≡ true }
     ensures { a.new ≡ blank_words z a.old r }
 {
     if r % 2 == 0 {
@@ -76,7 +76,7 @@ fn blank(a: &mut [u64], z: Shape, r: u64)
 // A cell that holds no reference any more becomes the first of its free chain.
 pub fn give_back(a: &mut [u64], z: Shape, r: u64)
     requires lent { Lent z a.old }
-    requires r_value { names z r ≡ true }
+    requires is_cell { names z r ≡ true }
     ensures { a.new ≡ give_back_words z a.old r }
 {
     let kind = r % 2;

@@ -55,7 +55,7 @@ pub fn share(a: &mut [u64], z: Shape, r: u64)
 // One word fewer names the cell.
 pub fn unshare(a: &mut [u64], z: Shape, r: u64)
     requires lent { Lent z a.old }
-    requires r_value { names z r ≡ true }
+    requires is_cell { names z r ≡ true }
     ensures { a.new ≡ unshare_words z a.old r }
 {
     let n = words::word(&*a, z, r, words::COUNT);

@@ -9,7 +9,7 @@ use layout::{Shape, words};
 
 fn set_slot(a: &mut [u64], z: Shape, s: u64, held: u64, root: u64, size: u64)
     requires lent { Lent z a.old }
-    requires s_lt_slots { s < z.slots }
+    requires in_slots { s < z.slots }
     ensures { a.new ≡ set_slot_words z a.old s held root size }
 {
     words::set_slot_word(&mut *a, z, s, words::HELD, held);
@@ -20,7 +20,7 @@ fn set_slot(a: &mut [u64], z: Shape, s: u64, held: u64, root: u64, size: u64)
 // An edition stands in the slot.
 pub fn hold(a: &mut [u64], z: Shape, s: u64, root: u64, size: u64)
     requires lent { Lent z a.old }
-    requires s_lt_slots { s < z.slots }
+    requires in_slots { s < z.slots }
     ensures { a.new ≡ set_slot_words z a.old s 1 root size }
 {
     set_slot(a, z, s, 1, root, size);
@@ -29,7 +29,7 @@ pub fn hold(a: &mut [u64], z: Shape, s: u64, root: u64, size: u64)
 // No edition stands in the slot any more.
 pub fn let_go(a: &mut [u64], z: Shape, s: u64)
     requires lent { Lent z a.old }
-    requires s_lt_slots { s < z.slots }
+    requires in_slots { s < z.slots }
     ensures { a.new ≡ set_slot_words z a.old s 0 0 0 }
 {
     set_slot(a, z, s, 0, 0, 0);

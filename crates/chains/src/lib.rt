@@ -49,7 +49,7 @@ fn new_entry(a: &mut [u64], z: Shape, length: u64, hash: u64, key: u64, value: u
 // An entry once more. The chain from the copy on is one shorter: an entry behind it is left out.
 fn copy_entry(a: &mut [u64], z: Shape, r: u64) -> u64
     requires lent { Lent z a.old }
-    requires r_value { names_kind z 1 r ≡ true }
+    requires is_entry { names_kind z 1 r ≡ true }
     ensures { wrote result a.new ≡ entry_copied z a.old r }
 {
     let length = shares::fewer(words::word(&*a, z, r, words::MARK));
@@ -63,7 +63,7 @@ fn copy_entry(a: &mut [u64], z: Shape, r: u64) -> u64
 // Each is whole before it is put behind the one before it, so that the words hang together all the time.
 fn copy_on(a: &mut [u64], z: Shape, count: u64, first: u64, from: u64) -> u64
     requires lent { Lent z a.old }
-    requires first_value { names_kind z 1 first ≡ true }
+    requires is_entry { names_kind z 1 first ≡ true }
     ensures { wrote result a.new ≡ copied_on z count first from a.old }
 {
     let mut left = count;
@@ -90,7 +90,7 @@ fn copy_on(a: &mut [u64], z: Shape, count: u64, first: u64, from: u64) -> u64
 // `first`, or 0 where no cell could be taken.
 fn stand_behind(a: &mut [u64], z: Shape, first: u64, count: u64, from: u64, rest: u64) -> u64
     requires lent { Lent z a.old }
-    requires first_value { names_kind z 1 first ≡ true }
+    requires is_entry { names_kind z 1 first ≡ true }
     ensures { wrote result a.new ≡ closed z first rest (copied_on z count first from a.old) }
 {
     let last = copy_on(&mut *a, z, count, first, from);

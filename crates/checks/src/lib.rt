@@ -16,7 +16,7 @@ use replies::{Checked, Refusal};
 // Each cell by itself; branches and slots; counts and free chains; and last the keys, since chains are known to end by then.
 fn is_sound(a: &[u64], work: &mut [u64], z: Shape) -> bool
     requires header { Header a.now z }
-    requires z_in_bounds { work_words z ≤ length work.old }
+    requires work_fits { work_words z ≤ length work.old }
     ensures { Judged z a.now work.old result work.new }
 {
     if !entries::are_right(a, z) {

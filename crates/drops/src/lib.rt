@@ -16,7 +16,7 @@ use replies::{Dropped, Refusal};
 // The slot is emptied first, then its root is let go.
 fn free(a: &mut [u64], z: Shape, edition: u64)
     requires lent { Lent z a.old }
-    requires edition_lt_slots { edition < z.slots }
+    requires in_slots { edition < z.slots }
     ensures { a.new ≡ free_words z a.old edition }
 {
     let root = words::slot_word(&*a, z, edition, words::ROOT);
@@ -27,7 +27,7 @@ fn free(a: &mut [u64], z: Shape, edition: u64)
 // Both numbers freed are what the counts of the cells in use fell by.
 fn drop_held(a: &mut [u64], z: Shape, edition: u64) -> Dropped
     requires lent { Lent z a.old }
-    requires edition_lt_slots { edition < z.slots }
+    requires in_slots { edition < z.slots }
     ensures { leaves (dropped result) a.new ≡ free_in z a.old edition }
 {
     let branches = words::kind_word(&*a, z, words::IN_USE, 0);

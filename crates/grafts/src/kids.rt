@@ -11,7 +11,7 @@ use sparse_array::Place;
 // The bitmap, at a depth.
 pub fn bits(a: &[u64], z: Shape, depth: u64, r: u64) -> u64
     requires lent { Lent z a.now }
-    requires depth_lt_depths { depth < z.depths }
+    requires in_depths { depth < z.depths }
     ensures { result ≡ kid_bits z (columns z a.now) depth r }
 {
     if links::is_branch(z, r) {

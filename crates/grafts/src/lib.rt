@@ -50,7 +50,7 @@ fn is_end(z: Shape, replaced: bool, r: u64) -> bool
 
 pub fn follow(a: &[u64], z: Shape, hash: u64, depth: u64, r: u64) -> Onward
     requires lent { Lent z a.now }
-    requires depth_lt_depths { depth < z.depths }
+    requires in_depths { depth < z.depths }
     ensures { result ≡ onward_in z (columns z a.now) hash depth r }
 {
     let segment = segments::segment_at(hash, depth, z.bits);
@@ -105,7 +105,7 @@ fn rise(at: u64, gap: u64, k: u64) -> u64
 // one piece each are slower, since a row is short and its words were just written.
 fn load_branch(a: &[u64], z: Shape, r: u64, at: u64, gap: u64, row: &mut [u64])
     requires lent { Lent z a.now × (length row.old ≡ 64) }
-    requires r_value { (names_kind z 0 r ≡ true) × (at < z.degree) × (gap ≤ 1) }
+    requires gap_in_branch { (names_kind z 0 r ≡ true) × (at < z.degree) × (gap ≤ 1) }
     ensures { IsRow z.degree (row_at z (columns z a.now) r at gap 0) row.new }
 {
     let mut k = 0;
@@ -119,7 +119,7 @@ fn load_branch(a: &[u64], z: Shape, r: u64, at: u64, gap: u64, row: &mut [u64])
 // A row with the children of a node, and with 0 where a child is put among them. The row is all 0 before.
 fn load(a: &[u64], z: Shape, r: u64, at: u64, gap: u64, row: &mut [u64])
     requires lent { Lent z a.now × Blank row.old }
-    requires at_lt_degree { (at < z.degree) × (gap ≤ 1) }
+    requires gap_in_row { (at < z.degree) × (gap ≤ 1) }
     ensures { IsRow z.degree (row_at z (columns z a.now) r at gap 0) row.new }
 {
     if links::is_branch(z, r) {
@@ -188,7 +188,7 @@ pub fn new_branch(a: &mut [u64], z: Shape, depth: u64, bitmap: u64, row: &[u64])
 // given, whether or not another stood there.
 pub fn put_child(a: &mut [u64], z: Shape, hash: u64, depth: u64, r: u64, child: u64) -> u64
     requires lent { Lent z a.old }
-    requires depth_lt_depths { depth < z.depths }
+    requires in_depths { depth < z.depths }
     ensures { wrote result a.new ≡ child_put z hash depth r child a.old }
 {
     let segment = segments::segment_at(hash, depth, z.bits);
@@ -206,7 +206,7 @@ pub fn put_child(a: &mut [u64], z: Shape, hash: u64, depth: u64, r: u64, child: 
 // The same with what was made below, where that is not 0.
 fn put_below(a: &mut [u64], z: Shape, hash: u64, depth: u64, r: u64, below: u64) -> u64
     requires lent { Lent z a.old }
-    requires depth_lt_depths { depth < z.depths }
+    requires in_depths { depth < z.depths }
     ensures { wrote result a.new ≡ below_put z hash depth r (wrote below a.old) }
 {
     if below == 0 {
@@ -227,7 +227,7 @@ pub fn graft(
     r: u64,
 ) -> u64
     requires lent { Lent z a.old }
-    requires left_le_depths { left ≤ z.depths }
+    requires in_depths { left ≤ z.depths }
     ensures { wrote result a.new ≡ graft_from z hash leaf replaced left (z.depths - left) r a.old }
 {
     if left == 0 {

@@ -26,7 +26,7 @@ pub enum Room {
 // How many cells of a kind are free: those that are not in use.
 fn free_cells(a: &[u64], z: Shape, kind: u64) -> u64
     requires lent { Lent z a.now }
-    requires kind_bound { kind < 2 }
+    requires is_kind { kind < 2 }
     ensures { result ≡ free_cell_count z a.now kind }
 {
     shares::less(
@@ -65,7 +65,7 @@ pub fn hold_edition(
     entries: u64,
 ) -> Updated
     requires lent { Lent z a.old }
-    requires slot_lt_slots { slot < z.slots }
+    requires in_slots { slot < z.slots }
     ensures { leaves (updated result) a.new ≡ held_to z slot size branches entries root a.old }
 {
     slots::hold(&mut *a, z, slot, root, size);
@@ -87,7 +87,7 @@ pub fn hold_root(
     entries: u64,
 ) -> Updated
     requires lent { Lent z a.old }
-    requires slot_lt_slots { slot < z.slots }
+    requires in_slots { slot < z.slots }
     ensures { leaves (updated result) a.new ≡ hold_to z slot size branches entries (wrote root a.old) }
 {
     if root == 0 {

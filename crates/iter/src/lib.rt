@@ -34,7 +34,7 @@ pub struct Iter {
 fn dig(a: &[u64], z: Shape, stack: &mut [u64], it: Iter) -> Iter
     requires lent { Lent z a.now }
     requires stack_len { (length stack.old ≡ 65) × (it.depth ≤ 65) }
-    ensures result_after { still z a.now stack.new result ≡ still z a.now stack.old it }
+    ensures still_to_come { still z a.now stack.new result ≡ still z a.now stack.old it }
     ensures settled { Settled z result × (result.left ≤ it.left) }
 {
     let mut r = it.at;
@@ -59,9 +59,9 @@ fn dig(a: &[u64], z: Shape, stack: &mut [u64], it: Iter) -> Iter
 fn climb(a: &[u64], z: Shape, stack: &mut [u64], taken: usize, left: u64) -> Iter
     requires lent { Lent z a.now }
     requires stack_len { (length stack.old ≡ 65) × (taken ≤ 65) }
-    ensures at_value { result.at ≡ (climbed (columns z a.now) (waiting stack.old taken)).at }
-    ensures depth_after { waiting stack.new result.depth ≡ (climbed (columns z a.now) (waiting stack.old taken)).places }
-    ensures depth_bound { (result.depth ≤ 65) × (result.left ≡ left) }
+    ensures climbed_to { result.at ≡ (climbed (columns z a.now) (waiting stack.old taken)).at }
+    ensures places_left { waiting stack.new result.depth ≡ (climbed (columns z a.now) (waiting stack.old taken)).places }
+    ensures in_stack { (result.depth ≤ 65) × (result.left ≡ left) }
 {
     let mut depth = taken;
     while depth > 0 {
@@ -87,8 +87,8 @@ pub fn has_entry(z: Shape, it: Iter) -> bool
 fn advance(a: &[u64], z: Shape, stack: &mut [u64], it: Iter) -> Iter
     requires lent { Lent z a.now }
     requires stack_len { (length stack.old ≡ 65) × (it.depth ≤ 65) × (is_at_entry z it ≡ true) }
-    ensures it_value { still z a.now stack.old it ≡ entry_at (columns z a.now) it.at ∷ still z a.now stack.new result }
-    ensures depth_bound { (result.depth ≤ 65) × (suc result.left ≡ it.left) }
+    ensures gives_first { still z a.now stack.old it ≡ entry_at (columns z a.now) it.at ∷ still z a.now stack.new result }
+    ensures in_stack { (result.depth ≤ 65) × (suc result.left ≡ it.left) }
 {
     let left = it.left - 1;
     let next = links::kid(a, z, it.at, 0);
@@ -106,7 +106,7 @@ fn advance(a: &[u64], z: Shape, stack: &mut [u64], it: Iter) -> Iter
 pub fn start(a: &[u64], z: Shape, stack: &mut [u64], root: u64) -> Iter
     requires lent { Lent z a.now }
     requires stack_len { length stack.old ≡ 65 }
-    ensures result_after { still z a.now stack.new result ≡ met z a.now root }
+    ensures still_to_come { still z a.now stack.new result ≡ met z a.now root }
     ensures settled { Settled z result }
 {
     let left = z.branches + z.entries;
@@ -126,7 +126,7 @@ pub fn start(a: &[u64], z: Shape, stack: &mut [u64], root: u64) -> Iter
 pub fn next(a: &[u64], z: Shape, stack: &mut [u64], it: Iter) -> Iter
     requires lent { Lent z a.now }
     requires stack_len { (length stack.old ≡ 65) × (it.depth ≤ 65) × (is_at_entry z it ≡ true) }
-    ensures it_value { still z a.now stack.old it ≡ entry_at (columns z a.now) it.at ∷ still z a.now stack.new result }
+    ensures gives_first { still z a.now stack.old it ≡ entry_at (columns z a.now) it.at ∷ still z a.now stack.new result }
     ensures settled { Settled z result × (result.left < it.left) }
 {
     let on = advance(a, z, &mut *stack, it);

@@ -93,7 +93,7 @@ pub fn total(z: Shape) -> u64
 // Words 5 to 7 and the length of the slice.
 fn offsets_fit(a: &[u64], z: Shape) -> bool
     requires allowed { Allowed z }
-    requires header_words_in_bounds { header_words ≤ length a.now }
+    requires header_fits { header_words ≤ length a.now }
     ensures { result ≡ are_offsets_fit a.now z }
 {
     if a[5] == HEADER_WORDS {

@@ -51,7 +51,7 @@ pub fn is_cell(z: Shape, t: &[u64], r: u64) -> bool
 
 fn word_at(z: Shape, t: &[u64], r: u64, place: u64) -> usize
     requires allowed { Allowed z × (t.now ≡ table_of z) }
-    requires place_value { has z r place ≡ true }
+    requires has_word { has z r place ≡ true }
     ensures { result ≡ word_at z r place }
 {
     (picked(t, AT, r) + (r / 2 - 1) * picked(t, WIDTHS, r) + place) as usize
@@ -60,7 +60,7 @@ fn word_at(z: Shape, t: &[u64], r: u64, place: u64) -> usize
 // Word `place` of the cell that `r` names.
 pub fn word(a: &[u64], z: Shape, t: &[u64], r: u64, place: u64) -> u64
     requires lent { Lent z a.now × (t.now ≡ table_of z) }
-    requires place_value { has z r place ≡ true }
+    requires has_word { has z r place ≡ true }
     ensures { result ≡ word z a.now r place }
 {
     let i = word_at(z, t, r, place);
@@ -69,7 +69,7 @@ pub fn word(a: &[u64], z: Shape, t: &[u64], r: u64, place: u64) -> u64
 
 pub fn set_word(a: &mut [u64], z: Shape, t: &[u64], r: u64, place: u64, v: u64)
     requires lent { Lent z a.old × (t.now ≡ table_of z) }
-    requires place_value { has z r place ≡ true }
+    requires has_word { has z r place ≡ true }
     ensures { a.new ≡ word_set z a.old r place v }
 {
     let i = word_at(z, t, r, place);

@@ -77,7 +77,7 @@ pub fn is_cell(z: Shape, r: u64) -> bool
 
 fn word_at(z: Shape, r: u64, place: u64) -> usize
     requires allowed { Allowed z }
-    requires place_value { has z r place ≡ true }
+    requires has_word { has z r place ≡ true }
     ensures { result ≡ word_at z r place }
 {
     let kind = r % 2;
@@ -89,7 +89,7 @@ fn word_at(z: Shape, r: u64, place: u64) -> usize
 // Word `place` of the cell that `r` names.
 pub fn word(a: &[u64], z: Shape, r: u64, place: u64) -> u64
     requires lent { Lent z a.now }
-    requires place_value { has z r place ≡ true }
+    requires has_word { has z r place ≡ true }
     ensures { result ≡ word z a.now r place }
 {
     let i = word_at(z, r, place);
@@ -98,7 +98,7 @@ pub fn word(a: &[u64], z: Shape, r: u64, place: u64) -> u64
 
 pub fn set_word(a: &mut [u64], z: Shape, r: u64, place: u64, v: u64)
     requires lent { Lent z a.old }
-    requires place_value { has z r place ≡ true }
+    requires has_word { has z r place ≡ true }
     ensures { a.new ≡ word_set z a.old r place v }
 {
     let i = word_at(z, r, place);
@@ -107,7 +107,7 @@ pub fn set_word(a: &mut [u64], z: Shape, r: u64, place: u64, v: u64)
 
 fn slot_at(z: Shape, s: u64, place: u64) -> usize
     requires allowed { Allowed z }
-    requires s_lt_slots { (s < z.slots) × (place < z.stride) }
+    requires in_slots { (s < z.slots) × (place < z.stride) }
     ensures { result ≡ slot_at z s place }
 {
     (header::HEADER_WORDS + s * z.stride + place) as usize
@@ -116,7 +116,7 @@ fn slot_at(z: Shape, s: u64, place: u64) -> usize
 // Word `place` of slot `s`.
 pub fn slot_word(a: &[u64], z: Shape, s: u64, place: u64) -> u64
     requires lent { Lent z a.now }
-    requires s_lt_slots { (s < z.slots) × (place < z.stride) }
+    requires in_slots { (s < z.slots) × (place < z.stride) }
     ensures { result ≡ word_of_slot z a.now s place }
 {
     let i = slot_at(z, s, place);
@@ -125,7 +125,7 @@ pub fn slot_word(a: &[u64], z: Shape, s: u64, place: u64) -> u64
 
 pub fn set_slot_word(a: &mut [u64], z: Shape, s: u64, place: u64, v: u64)
     requires lent { Lent z a.old }
-    requires s_lt_slots { (s < z.slots) × (place < z.stride) }
+    requires in_slots { (s < z.slots) × (place < z.stride) }
     ensures { a.new ≡ slot_word_set z a.old s place v }
 {
     let i = slot_at(z, s, place);
@@ -135,7 +135,7 @@ pub fn set_slot_word(a: &mut [u64], z: Shape, s: u64, place: u64, v: u64)
 // A word of the header that there is one of for each kind.
 pub fn kind_word(a: &[u64], z: Shape, base: u64, kind: u64) -> u64
     requires lent { Lent z a.now }
-    requires base_bound { (base ≤ 10) × (kind < 2) }
+    requires in_header { (base ≤ 10) × (kind < 2) }
     ensures { result ≡ by_kind a.now base kind }
 {
     a[(base + kind) as usize]
@@ -143,7 +143,7 @@ pub fn kind_word(a: &[u64], z: Shape, base: u64, kind: u64) -> u64
 
 pub fn set_kind_word(a: &mut [u64], z: Shape, base: u64, kind: u64, v: u64)
     requires lent { Lent z a.old }
-    requires base_bound { (base ≤ 10) × (kind < 2) }
+    requires in_header { (base ≤ 10) × (kind < 2) }
     ensures { a.new ≡ set a.old (base + kind) v }
 {
     a[(base + kind) as usize] = v;

@@ -26,7 +26,7 @@ pub enum Seen {
 
 fn see_entry(a: &[u64], z: Shape, depth: u64, r: u64) -> Seen
     requires lent { Lent z a.now }
-    requires r_value { names_kind z 1 r ≡ true }
+    requires is_entry { names_kind z 1 r ≡ true }
     ensures { result ≡ seen_entry z (columns z a.now) depth r }
 {
     let size = words::word(a, z, r, words::MARK);
@@ -43,7 +43,7 @@ fn see_entry(a: &[u64], z: Shape, depth: u64, r: u64) -> Seen
 fn see(a: &[u64], work: &[u64], z: Shape, depth: u64, r: u64) -> Seen
     requires lent { Lent z a.now }
     requires known { Known z a.now depth work.now }
-    requires branches_in_bounds { z.branches ≤ length work.now }
+    requires work_fits { z.branches ≤ length work.now }
     ensures { result ≡ see_at z (columns z a.now) depth r }
 {
     if !words::is_cell(z, r) {
@@ -67,8 +67,8 @@ fn see(a: &[u64], work: &[u64], z: Shape, depth: u64, r: u64) -> Seen
 
 // Whether a child may stand behind those before it: see specs/Levels.antt.
 fn is_fit(z: Shape, depth: u64, first: u64, low: u64, size: u64, hash: u64, below: u64) -> bool
-    requires bits_bound { depth * z.bits < 64 }
-    requires bits_bound_2 { (z.bits ≤ 6) × (size ≤ z.entries) }
+    requires prefix_fits { depth * z.bits < 64 }
+    requires size_fits { (z.bits ≤ 6) × (size ≤ z.entries) }
     ensures { result ≡ fits z depth first low size hash below }
 {
     if segments::segment_at(hash, depth, z.bits) < low {
@@ -84,7 +84,7 @@ fn is_fit(z: Shape, depth: u64, first: u64, low: u64, size: u64, hash: u64, belo
 // All children of a branch are read.
 fn close(a: &[u64], z: Shape, depth: u64, r: u64, lead: u64, bits: u64, size: u64) -> Seen
     requires lent { Lent z a.now }
-    requires r_value { names_kind z 0 r ≡ true }
+    requires is_branch { names_kind z 0 r ≡ true }
     ensures { result ≡ closed (columns z a.now) depth r lead bits size }
 {
     if words::word(a, z, r, words::BITMAP) != bits {
@@ -121,8 +121,8 @@ fn size_of(s: Seen) -> u64
 // The children end at a place: behind it there are none.
 fn end_row(a: &[u64], z: Shape, depth: u64, r: u64, lead: u64, k: u64, bits: u64, size: u64) -> Seen
     requires lent { Lent z a.now }
-    requires r_value { names_kind z 0 r ≡ true }
-    requires k_le_degree { k ≤ z.degree }
+    requires is_branch { names_kind z 0 r ≡ true }
+    requires in_row { k ≤ z.degree }
     ensures { result ≡ ended z (columns z a.now) depth r lead k bits size }
 {
     if branches::has_none_from(a, z, r, k) {
@@ -136,10 +136,10 @@ fn end_row(a: &[u64], z: Shape, depth: u64, r: u64, lead: u64, k: u64, bits: u64
 fn read_row(a: &[u64], work: &[u64], z: Shape, depth: u64, r: u64, lead: u64) -> Seen
     requires lent { Lent z a.now }
     requires known { Known z a.now (suc depth) work.now }
-    requires branches_in_bounds { z.branches ≤ length work.now }
-    requires depth_lt_depths { depth < z.depths }
-    requires r_value { names_kind z 0 r ≡ true }
-    requires lead_value { names_kind z 1 lead ≡ true }
+    requires work_fits { z.branches ≤ length work.now }
+    requires in_depths { depth < z.depths }
+    requires is_branch { names_kind z 0 r ≡ true }
+    requires lead_is_entry { names_kind z 1 lead ≡ true }
     ensures { result ≡ row_from (see_at z (columns z a.now) (suc depth)) z (columns z a.now) depth r lead z.degree 0 0 0 0 }
 {
     let first = words::word(a, z, lead, words::HASH);
@@ -175,9 +175,9 @@ fn read_row(a: &[u64], work: &[u64], z: Shape, depth: u64, r: u64, lead: u64) ->
 fn read_branch(a: &[u64], work: &[u64], z: Shape, depth: u64, r: u64) -> Seen
     requires lent { Lent z a.now }
     requires known { Known z a.now (suc depth) work.now }
-    requires branches_in_bounds { z.branches ≤ length work.now }
-    requires depth_lt_depths { depth < z.depths }
-    requires r_value { names_kind z 0 r ≡ true }
+    requires work_fits { z.branches ≤ length work.now }
+    requires in_depths { depth < z.depths }
+    requires is_branch { names_kind z 0 r ≡ true }
     ensures { result ≡ branch_by (see_at z (columns z a.now) (suc depth)) z (columns z a.now) depth r }
 {
     let child = links::kid(a, z, r, 0);
@@ -202,7 +202,7 @@ fn keep(lead: u64, size: u64) -> u64
 // Whether a branch is in use at a depth.
 fn is_at(a: &[u64], z: Shape, depth: u64, r: u64) -> bool
     requires lent { Lent z a.now }
-    requires r_value { names_kind z 0 r ≡ true }
+    requires is_branch { names_kind z 0 r ≡ true }
     ensures { result ≡ is_at (columns z a.now) depth r }
 {
     if words::word(a, z, r, words::COUNT) == 0 {
@@ -215,9 +215,9 @@ fn is_at(a: &[u64], z: Shape, depth: u64, r: u64) -> bool
 fn see_branch(a: &[u64], work: &mut [u64], z: Shape, depth: u64, i: u64) -> bool
     requires lent { Lent z a.now }
     requires known { Known z a.now (suc depth) work.old }
-    requires branches_in_bounds { z.branches ≤ length work.old }
-    requires depth_lt_depths { (depth < z.depths) × (i < z.branches) }
-    ensures value { result ≡ branch_seen z (columns z a.now) depth (reference 0 i) }
+    requires work_fits { z.branches ≤ length work.old }
+    requires in_depths { (depth < z.depths) × (i < z.branches) }
+    ensures answers { result ≡ branch_seen z (columns z a.now) depth (reference 0 i) }
     ensures kept_at { result ≡ true → KeptAt z a.now depth work.new i }
     ensures only_at { OnlyAt z a.now depth i work.old work.new }
 {
@@ -238,10 +238,10 @@ fn see_branch(a: &[u64], work: &mut [u64], z: Shape, depth: u64, i: u64) -> bool
 fn see_level(a: &[u64], work: &mut [u64], z: Shape, depth: u64) -> bool
     requires lent { Lent z a.now }
     requires known { Known z a.now (suc depth) work.old }
-    requires branches_in_bounds { z.branches ≤ length work.old }
-    requires depth_lt_depths { depth < z.depths }
-    ensures value { result ≡ level_seen z (columns z a.now) depth }
-    ensures known_2 { result ≡ true → Known z a.now depth work.new }
+    requires work_fits { z.branches ≤ length work.old }
+    requires in_depths { depth < z.depths }
+    ensures answers { result ≡ level_seen z (columns z a.now) depth }
+    ensures is_known { result ≡ true → Known z a.now depth work.new }
     ensures only_branches { OnlyBranches z work.old work.new }
 {
     let mut i = 0;
@@ -258,9 +258,9 @@ fn see_level(a: &[u64], work: &mut [u64], z: Shape, depth: u64) -> bool
 pub fn see_levels(a: &[u64], work: &mut [u64], z: Shape) -> bool
     requires lent { Lent z a.now }
     requires known { Known z a.now z.depths work.old }
-    requires branches_in_bounds { z.branches ≤ length work.old }
-    ensures value { result ≡ levels_seen z (columns z a.now) z.depths }
-    ensures known_2 { result ≡ true → Known z a.now 0 work.new }
+    requires work_fits { z.branches ≤ length work.old }
+    ensures answers { result ≡ levels_seen z (columns z a.now) z.depths }
+    ensures is_known { result ≡ true → Known z a.now 0 work.new }
     ensures only_branches { OnlyBranches z work.old work.new }
 {
     let mut depth = z.depths;
@@ -277,7 +277,7 @@ pub fn see_levels(a: &[u64], work: &mut [u64], z: Shape) -> bool
 fn is_root_right(a: &[u64], work: &[u64], z: Shape, root: u64, size: u64) -> bool
     requires lent { Lent z a.now }
     requires known { Known z a.now 0 work.now }
-    requires branches_in_bounds { z.branches ≤ length work.now }
+    requires work_fits { z.branches ≤ length work.now }
     ensures { result ≡ root_right z (columns z a.now) root size }
 {
     if root == 0 {
@@ -293,8 +293,8 @@ fn is_root_right(a: &[u64], work: &[u64], z: Shape, root: u64, size: u64) -> boo
 fn is_slot_right(a: &[u64], work: &[u64], z: Shape, s: u64) -> bool
     requires lent { Lent z a.now }
     requires known { Known z a.now 0 work.now }
-    requires branches_in_bounds { z.branches ≤ length work.now }
-    requires s_lt_slots { s < z.slots }
+    requires work_fits { z.branches ≤ length work.now }
+    requires in_slots { s < z.slots }
     ensures { result ≡ slot_right z (columns z a.now) s }
 {
     let held = words::slot_word(a, z, s, words::HELD);
@@ -316,7 +316,7 @@ fn is_slot_right(a: &[u64], work: &[u64], z: Shape, s: u64) -> bool
 pub fn are_slots_right(a: &[u64], work: &[u64], z: Shape) -> bool
     requires lent { Lent z a.now }
     requires known { Known z a.now 0 work.now }
-    requires branches_in_bounds { z.branches ≤ length work.now }
+    requires work_fits { z.branches ≤ length work.now }
     ensures { result ≡ slots_right z (columns z a.now) }
 {
     let mut s = 0;

@@ -56,7 +56,7 @@ pub fn get(a: &[u64], z: Shape, edition: u64, hash: u64, key: u64) -> Found
 // At the end there is nothing to walk for, whatever the room.
 fn list_held(a: &[u64], z: Shape, edition: u64, place: u64, out: &mut [u64]) -> Counted
     requires lent { Lent z a.now }
-    requires edition_lt_slots { edition < z.slots }
+    requires in_slots { edition < z.slots }
     ensures { leaves (counted result) out.new ≡ held_listed z a.now edition place out.old }
 {
     let size = words::slot_word(a, z, edition, words::SIZE);
@@ -88,7 +88,7 @@ pub fn list(a: &[u64], z: Shape, edition: u64, place: u64, out: &mut [u64]) -> C
 // Two editions with one root are one trie. Where the sizes agree, one way of looking is enough.
 fn is_equal(a: &[u64], z: Shape, first: u64, second: u64) -> bool
     requires lent { Lent z a.now }
-    requires first_lt_slots { (first < z.slots) × (second < z.slots) }
+    requires in_slots { (first < z.slots) × (second < z.slots) }
     ensures { result ≡ same_entries z a.now first second }
 {
     let root = words::slot_word(a, z, first, words::ROOT);

@@ -33,7 +33,7 @@ pub enum Looked {
 // The child of a branch at a segment. On damaged words a bitmap may promise more children than the branch has room for.
 fn child_at(a: &[u64], z: Shape, r: u64, segment: u64) -> u64
     requires lent { Lent z a.now }
-    requires r_value { names_kind z 0 r ≡ true }
+    requires is_branch { names_kind z 0 r ≡ true }
     ensures { result ≡ kid_at (columns z a.now) r segment }
 {
     match sparse_array::map_index(words::word(a, z, r, words::BITMAP), segment) {
@@ -63,7 +63,7 @@ pub fn descend(a: &[u64], z: Shape, root: u64, hash: u64) -> u64
 // Whether an entry has this hash and this key.
 fn has_key(a: &[u64], z: Shape, r: u64, hash: u64, key: u64) -> bool
     requires lent { Lent z a.now }
-    requires r_value { names_kind z 1 r ≡ true }
+    requires is_entry { names_kind z 1 r ≡ true }
     ensures { result ≡ matches hash key (entry_at (columns z a.now) r) }
 {
     words::word(a, z, r, words::HASH) == hash && words::word(a, z, r, words::KEY) == key

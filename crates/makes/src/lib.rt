@@ -48,7 +48,7 @@ pub fn new_edition(a: &mut [u64], z: Shape) -> Made
 
 fn share_held(a: &mut [u64], z: Shape, edition: u64) -> Made
     requires lent { Lent z a.old }
-    requires edition_lt_slots { edition < z.slots }
+    requires in_slots { edition < z.slots }
     ensures { leaves (made result) a.new ≡ held_shared z a.old edition }
 {
     match slots::lowest_free(&*a, z) {

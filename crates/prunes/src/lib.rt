@@ -51,7 +51,7 @@ fn is_only(a: &[u64], z: Shape, r: u64) -> bool
 // Child `k` of a branch once the one at place `at` is taken out.
 fn out(a: &[u64], z: Shape, r: u64, at: u64, k: u64) -> u64
     requires lent { Lent z a.now }
-    requires k_bound { k < 64 }
+    requires in_row { k < 64 }
     ensures { result ≡ out_at z (columns z a.now) r at k }
 {
     if k < at {
@@ -75,7 +75,7 @@ fn is_lone(a: &[u64], z: Shape, r: u64, at: u64) -> bool
 // The place of the child at a hash's segment.
 fn place(a: &[u64], z: Shape, hash: u64, depth: u64, r: u64) -> u64
     requires lent { Lent z a.now }
-    requires depth_lt_depths { depth < z.depths }
+    requires in_depths { depth < z.depths }
     ensures { result ≡ place_at z (columns z a.now) hash depth r }
 {
     let segment = segments::segment_at(hash, depth, z.bits);
@@ -98,7 +98,7 @@ fn chain_left(length: u64) -> Left
 // What is left of a branch whose child on the path is emptied.
 fn cut_left(a: &[u64], z: Shape, hash: u64, depth: u64, r: u64) -> Left
     requires lent { Lent z a.now }
-    requires depth_lt_depths { depth < z.depths }
+    requires in_depths { depth < z.depths }
     ensures { result ≡ left_of_cut z (columns z a.now) hash depth r }
 {
     let at = place(a, z, hash, depth, r);
@@ -114,7 +114,7 @@ fn cut_left(a: &[u64], z: Shape, hash: u64, depth: u64, r: u64) -> Left
 // What is left of a branch, by what is left of its child on the path.
 fn settled_left(a: &[u64], z: Shape, hash: u64, depth: u64, r: u64, below: Left) -> Left
     requires lent { Lent z a.now }
-    requires depth_lt_depths { depth < z.depths }
+    requires in_depths { depth < z.depths }
     ensures { result ≡ left_of_settled z (columns z a.now) hash depth r below }
 {
     match below {
@@ -132,7 +132,7 @@ fn settled_left(a: &[u64], z: Shape, hash: u64, depth: u64, r: u64, below: Left)
 // What is left below a node, if `length` entries are left of the chain at the end of the hash's path.
 pub fn left_of(a: &[u64], z: Shape, hash: u64, length: u64, left: u64, r: u64) -> Left
     requires lent { Lent z a.now }
-    requires left_le_depths { left ≤ z.depths }
+    requires in_depths { left ≤ z.depths }
     ensures { result ≡ left_from z (columns z a.now) hash length left (z.depths - left) r }
 {
     if left == 0 {
@@ -166,7 +166,7 @@ fn comes_up(a: &[u64], z: Shape, r: u64, child: u64) -> bool
 // A branch with another child on the path: that child itself, where it is a single and the only one.
 fn settle_child(a: &mut [u64], z: Shape, hash: u64, depth: u64, r: u64, child: u64) -> u64
     requires lent { Lent z a.old }
-    requires depth_lt_depths { depth < z.depths }
+    requires in_depths { depth < z.depths }
     ensures { wrote result a.new ≡ child_settled z hash depth r child a.old }
 {
     if comes_up(&*a, z, r, child) {
@@ -178,7 +178,7 @@ fn settle_child(a: &mut [u64], z: Shape, hash: u64, depth: u64, r: u64, child: u
 // The same with what was made below, where that is not 0.
 fn settle_below(a: &mut [u64], z: Shape, hash: u64, depth: u64, r: u64, below: u64) -> u64
     requires lent { Lent z a.old }
-    requires depth_lt_depths { depth < z.depths }
+    requires in_depths { depth < z.depths }
     ensures { wrote result a.new ≡ below_settled z hash depth r (wrote below a.old) }
 {
     if below == 0 {
@@ -210,7 +210,7 @@ fn without(bits: u64, segment: u64) -> u64
 // A new branch with the children of a branch, all of them shared, but for the one at a segment.
 fn cut_at(a: &mut [u64], z: Shape, segment: u64, depth: u64, r: u64, at: u64) -> u64
     requires lent { Lent z a.old }
-    requires depth_lt_depths { (depth < z.depths) × (segment < 64) }
+    requires in_depths { (depth < z.depths) × (segment < 64) }
     ensures { wrote result a.new ≡ cut_at z segment depth r at a.old }
 {
     let bits = kids::bits(&*a, z, depth, r);
@@ -223,7 +223,7 @@ fn cut_at(a: &mut [u64], z: Shape, segment: u64, depth: u64, r: u64, at: u64) ->
 // A branch without its child on the path: the one child that is left, where it is a single.
 fn cut_child(a: &mut [u64], z: Shape, hash: u64, depth: u64, r: u64) -> u64
     requires lent { Lent z a.old }
-    requires depth_lt_depths { depth < z.depths }
+    requires in_depths { depth < z.depths }
     ensures { wrote result a.new ≡ child_cut z hash depth r a.old }
 {
     let at = place(&*a, z, hash, depth, r);
@@ -259,7 +259,7 @@ fn is_emptied(z: Shape, leaf: u64, left: u64, child: u64) -> bool
 // depths left falling, and back up. Answers what stands in the node's place.
 pub fn prune(a: &mut [u64], z: Shape, hash: u64, leaf: u64, left: u64, r: u64) -> u64
     requires lent { Lent z a.old }
-    requires left_le_depths { left ≤ z.depths }
+    requires in_depths { left ≤ z.depths }
     ensures { wrote result a.new ≡ prune_from z hash leaf left (z.depths - left) r a.old }
 {
     if left == 0 {

@@ -22,7 +22,7 @@ pub const ENTRY_WORDS: usize = 3;
 fn skip(a: &[u64], z: Shape, stack: &mut [u64], from: Iter, n: u64) -> Iter
     requires lent { Lent z a.now }
     requires stack_len { (length stack.old ≡ 65) × Settled z from }
-    ensures result_after { still z a.now stack.new result ≡ drop n (still z a.now stack.old from) }
+    ensures still_to_come { still z a.now stack.new result ≡ drop n (still z a.now stack.old from) }
     ensures settled { Settled z result }
 {
     let mut it = from;
@@ -41,8 +41,8 @@ fn skip(a: &[u64], z: Shape, stack: &mut [u64], from: Iter, n: u64) -> Iter
 fn write(a: &[u64], z: Shape, stack: &mut [u64], from: Iter, out: &mut [u64]) -> u64
     requires lent { Lent z a.now }
     requires stack_len { (length stack.old ≡ 65) × Settled z from }
-    ensures value { result ≡ length (take (length out.old / 3) (still z a.now stack.old from)) }
-    ensures out_after { out.new ≡ written_over (take (length out.old / 3) (still z a.now stack.old from)) out.old }
+    ensures answers { result ≡ length (take (length out.old / 3) (still z a.now stack.old from)) }
+    ensures leaves { out.new ≡ written_over (take (length out.old / 3) (still z a.now stack.old from)) out.old }
 {
     let mut it = from;
     let mut end = 0;
@@ -64,8 +64,8 @@ fn write(a: &[u64], z: Shape, stack: &mut [u64], from: Iter, out: &mut [u64]) ->
 // The entries below a root from a place on, as many as there is room for. Answers how many.
 pub fn list(a: &[u64], z: Shape, root: u64, place: u64, out: &mut [u64]) -> u64
     requires { Lent z a.now }
-    ensures value { result ≡ length (written (met z a.now root) place (length out.old)) }
-    ensures out_after { out.new ≡ written_over (written (met z a.now root) place (length out.old)) out.old }
+    ensures answers { result ≡ length (written (met z a.now root) place (length out.old)) }
+    ensures leaves { out.new ≡ written_over (written (met z a.now root) place (length out.old)) out.old }
 {
     let mut stack = [0u64; iter::PLACES];
     let first = iter::start(a, z, &mut stack, root);
@@ -76,7 +76,7 @@ pub fn list(a: &[u64], z: Shape, root: u64, place: u64, out: &mut [u64]) -> u64
 // Whether an entry stands below a root with the same value.
 fn is_in(a: &[u64], z: Shape, root: u64, entry: u64) -> bool
     requires lent { Lent z a.now }
-    requires value { names_kind z 1 entry ≡ true }
+    requires is_entry { names_kind z 1 entry ≡ true }
     ensures { result ≡ is_entry_in z a.now root (entry_at (columns z a.now) entry) }
 {
     let hash = words::word(a, z, entry, words::HASH);

@@ -23,9 +23,9 @@ use lookup::links;
 // A cell that is counted by no word is free, and not touched.
 fn is_last(a: &mut [u64], z: Shape, r: u64) -> bool
     requires lent { Lent z a.old }
-    requires r_value { names z r ≡ true }
-    ensures value { result ≡ is_last z a.old r }
-    ensures a_after { a.new ≡ less_words z a.old r }
+    requires is_cell { names z r ≡ true }
+    ensures answers { result ≡ is_last z a.old r }
+    ensures leaves { a.new ≡ less_words z a.old r }
 {
     let count = words::word(&*a, z, r, words::COUNT);
     if count > 1 {
@@ -71,7 +71,7 @@ fn is_at_place(a: &[u64], z: Shape, depth: u64, r: u64) -> bool
 // Whether a release comes to a cell that other words name too: then one word fewer is all that it does.
 fn is_shared(a: &[u64], z: Shape, t: &[u64], left: u64, r: u64) -> bool
     requires lent { Lent z a.now × (t.now ≡ table_of z) }
-    requires left_le_depths { left ≤ z.depths }
+    requires in_depths { left ≤ z.depths }
     ensures { result ≡ is_shared z (columns z a.now) left (z.depths - left) r }
 {
     if !table::is_cell(z, t, r) {
@@ -86,7 +86,7 @@ fn is_shared(a: &[u64], z: Shape, t: &[u64], left: u64, r: u64) -> bool
 // One word fewer names a cell that some word names.
 fn lessen(a: &mut [u64], z: Shape, t: &[u64], r: u64)
     requires lent { Lent z a.old × (t.now ≡ table_of z) }
-    requires r_value { (names z r ≡ true) × (0 < word z a.old r 0) }
+    requires is_in_use { (names z r ≡ true) × (0 < word z a.old r 0) }
     ensures { a.new ≡ unshare_words z a.old r }
 {
     let count = table::word(&*a, z, t, r, words::COUNT);
@@ -97,8 +97,8 @@ fn lessen(a: &mut [u64], z: Shape, t: &[u64], r: u64)
 // `release`, which costs more than a count. Answers the first that is left, or the degree. What the row came to so far goes on.
 fn pass(a: &mut [u64], z: Shape, left: u64, r: u64, from: u64) -> u64
     requires lent { Lent z a.old }
-    requires r_value { (names_kind z 0 r ≡ true) × (left ≤ z.depths) × (from ≤ z.degree) }
-    ensures lower_bound { (from ≤ result) × (result ≤ z.degree) }
+    requires rest_of_branch { (names_kind z 0 r ≡ true) × (left ≤ z.depths) × (from ≤ z.degree) }
+    ensures in_row { (from ≤ result) × (result ≤ z.degree) }
     ensures row_goes_on { RowGoesOn (release_from z left (z.depths - left)) z r from result a.old a.new }
 {
     let t = table::of(z);
@@ -121,7 +121,7 @@ fn pass(a: &mut [u64], z: Shape, left: u64, r: u64, from: u64) -> u64
 // named is let go.
 pub fn release(a: &mut [u64], z: Shape, left: u64, r: u64)
     requires lent { Lent z a.old }
-    requires left_le_depths { left ≤ z.depths }
+    requires in_depths { left ≤ z.depths }
     ensures { a.new ≡ release_from z left (z.depths - left) r a.old }
 {
     if links::is_entry(z, r) {

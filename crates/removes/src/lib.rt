@@ -94,7 +94,7 @@ fn nothing() -> Cut
 // The reading pass below an edition that is held.
 fn survey(a: &[u64], z: Shape, edition: u64, hash: u64, key: u64) -> Cut
     requires lent { Lent z a.now }
-    requires edition_lt_slots { edition < z.slots }
+    requires in_slots { edition < z.slots }
     ensures { result ≡ cut_of z a.now edition hash key }
 {
     let root = words::slot_word(a, z, edition, words::ROOT);
@@ -109,7 +109,7 @@ fn survey(a: &[u64], z: Shape, edition: u64, hash: u64, key: u64) -> Cut
 // The path above the chain that is left, then the slot.
 fn write_path(a: &mut [u64], z: Shape, hash: u64, found: Cut, slot: u64, leaf: u64) -> Updated
     requires lent { Lent z a.old }
-    requires slot_lt_slots { slot < z.slots }
+    requires in_slots { slot < z.slots }
     ensures { leaves (updated result) a.new ≡ pruned_to z hash found slot leaf a.old }
 {
     let root = prunes::prune(&mut *a, z, hash, leaf, z.depths, found.root);
@@ -127,7 +127,7 @@ fn is_lacking(leaf: u64, before: u64) -> bool
 // free chain may break off, and then what was written stands, but no slot is taken.
 fn write_chain(a: &mut [u64], z: Shape, hash: u64, found: Cut, slot: u64) -> Updated
     requires lent { Lent z a.old }
-    requires slot_lt_slots { slot < z.slots }
+    requires in_slots { slot < z.slots }
     ensures { leaves (updated result) a.new ≡ take_to z a.old hash found slot }
 {
     let leaf = chains::take_from(&mut *a, z, found.before, found.front, found.rest);
@@ -140,7 +140,7 @@ fn write_chain(a: &mut [u64], z: Shape, hash: u64, found: Cut, slot: u64) -> Upd
 // The new edition in a slot. Where nothing is left it is empty, and takes no cell.
 fn write(a: &mut [u64], z: Shape, hash: u64, found: Cut, slot: u64) -> Updated
     requires lent { Lent z a.old }
-    requires slot_lt_slots { slot < z.slots }
+    requires in_slots { slot < z.slots }
     ensures { leaves (updated result) a.new ≡ cut_to z a.old hash found slot }
 {
     if found.empty {
@@ -162,7 +162,7 @@ fn write_found(a: &mut [u64], z: Shape, hash: u64, found: Cut) -> Updated
 
 fn remove_held(a: &mut [u64], z: Shape, edition: u64, hash: u64, key: u64) -> Updated
     requires lent { Lent z a.old }
-    requires edition_value { held_slot z a.old edition ≡ true }
+    requires is_held { held_slot z a.old edition ≡ true }
     ensures { leaves (updated result) a.new ≡ remove_in z a.old edition hash key }
 {
     let found = survey(&*a, z, edition, hash, key);

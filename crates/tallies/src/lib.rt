@@ -19,7 +19,7 @@ use lookup::links;
 // The work words of the cells are 0.
 pub fn clear(work: &mut [u64], z: Shape)
     requires allowed { Allowed z }
-    requires z_in_bounds { work_words z ≤ length work.old }
+    requires work_fits { work_words z ≤ length work.old }
     ensures { Works z (λ r. 0) work.old work.new }
 {
     let n = z.branches + z.entries;
@@ -33,7 +33,7 @@ pub fn clear(work: &mut [u64], z: Shape)
 // The place of a cell's work word.
 fn work_at(z: Shape, r: u64) -> usize
     requires allowed { Allowed z }
-    requires r_value { names z r ≡ true }
+    requires is_cell { names z r ≡ true }
     ensures { result ≡ work_place z r }
 {
     if r % 2 == 0 {
@@ -46,7 +46,7 @@ fn work_at(z: Shape, r: u64) -> usize
 // One word more names what `r` names.
 fn tally_one(work: &mut [u64], z: Shape, r: u64)
     requires allowed { Allowed z }
-    requires z_in_bounds { work_words z ≤ length work.old }
+    requires work_fits { work_words z ≤ length work.old }
     requires low { Low z (2 ^ 60) work.old }
     ensures { Adds z (λ q. ind q r) work.old work.new }
 {
@@ -59,7 +59,7 @@ fn tally_one(work: &mut [u64], z: Shape, r: u64)
 // The references that a cell holds.
 fn tally_cell(a: &[u64], work: &mut [u64], z: Shape, r: u64, kids: u64)
     requires lent { Lent z a.now }
-    requires z_in_bounds { work_words z ≤ length work.old }
+    requires work_fits { work_words z ≤ length work.old }
     requires low { (Low z (2 ^ 50) work.old) × (kids ≤ 64) }
     ensures { Adds z (times kids ((columns z a.now).kid r)) work.old work.new }
 {
@@ -73,7 +73,7 @@ fn tally_cell(a: &[u64], work: &mut [u64], z: Shape, r: u64, kids: u64)
 // All cells of a kind.
 fn tally_cells(a: &[u64], work: &mut [u64], z: Shape, kind: u64, kids: u64)
     requires lent { Lent z a.now }
-    requires z_in_bounds { work_words z ≤ length work.old }
+    requires work_fits { work_words z ≤ length work.old }
     requires low { (Low z (2 ^ 40) work.old) × (kids ≤ 64) × (kind < 2) }
     ensures { Adds z (λ q. sum_to (cells_of z kind) (λ i. times kids ((columns z a.now).kid (reference kind i)) q)) work.old work.new }
 {
@@ -88,7 +88,7 @@ fn tally_cells(a: &[u64], work: &mut [u64], z: Shape, kind: u64, kids: u64)
 // The roots of all slots.
 fn tally_roots(a: &[u64], work: &mut [u64], z: Shape)
     requires lent { Lent z a.now }
-    requires z_in_bounds { work_words z ≤ length work.old }
+    requires work_fits { work_words z ≤ length work.old }
     requires low { Low z 0 work.old }
     ensures { Adds z (times z.slots (columns z a.now).root) work.old work.new }
 {
@@ -102,7 +102,7 @@ fn tally_roots(a: &[u64], work: &mut [u64], z: Shape)
 // How many words of the arena name each cell.
 pub fn tally(a: &[u64], work: &mut [u64], z: Shape)
     requires lent { Lent z a.now }
-    requires z_in_bounds { work_words z ≤ length work.old }
+    requires work_fits { work_words z ≤ length work.old }
     ensures { Works z (occ z (columns z a.now)) work.old work.new }
 {
     clear(&mut *work, z);
@@ -114,8 +114,8 @@ pub fn tally(a: &[u64], work: &mut [u64], z: Shape)
 // Whether the work words of the cells of a kind are their counts.
 fn are_counts_of(a: &[u64], work: &[u64], z: Shape, kind: u64) -> bool
     requires lent { Lent z a.now }
-    requires z_in_bounds { work_words z ≤ length work.now }
-    requires kind_bound { kind < 2 }
+    requires work_fits { work_words z ≤ length work.now }
+    requires is_kind { kind < 2 }
     ensures { result ≡ counts_of z (columns z a.now) work.now kind }
 {
     let cells = words::cells_of(z, kind);
@@ -133,7 +133,7 @@ fn are_counts_of(a: &[u64], work: &[u64], z: Shape, kind: u64) -> bool
 // Whether the work words are the counts of the cells.
 pub fn are_counts(a: &[u64], work: &[u64], z: Shape) -> bool
     requires lent { Lent z a.now }
-    requires z_in_bounds { work_words z ≤ length work.now }
+    requires work_fits { work_words z ≤ length work.now }
     ensures { result ≡ counts_right z (columns z a.now) work.now }
 {
     if !are_counts_of(a, work, z, 0) {

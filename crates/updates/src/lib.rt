@@ -77,7 +77,7 @@ fn add(a: &[u64], z: Shape, root: u64, size: u64, hash: u64) -> Plan
 // The reading pass below an edition that is held.
 fn survey(a: &[u64], z: Shape, edition: u64, hash: u64, key: u64) -> Plan
     requires lent { Lent z a.now }
-    requires edition_lt_slots { edition < z.slots }
+    requires in_slots { edition < z.slots }
     ensures { result ≡ plan_of z a.now edition hash key }
 {
     let root = words::slot_word(a, z, edition, words::ROOT);
@@ -93,7 +93,7 @@ fn survey(a: &[u64], z: Shape, edition: u64, hash: u64, key: u64) -> Plan
 // off, and then what was written stands, but no slot is taken.
 fn write(a: &mut [u64], z: Shape, hash: u64, key: u64, value: u64, plan: Plan, slot: u64) -> Updated
     requires lent { Lent z a.old }
-    requires slot_lt_slots { slot < z.slots }
+    requires in_slots { slot < z.slots }
     ensures { leaves (updated result) a.new ≡ write_to z a.old hash key value plan slot }
 {
     let leaf = chains::push_front(
@@ -143,7 +143,7 @@ fn write_held(
     present: bool,
 ) -> Updated
     requires lent { Lent z a.old }
-    requires edition_value { held_slot z a.old edition ≡ true }
+    requires is_held { held_slot z a.old edition ≡ true }
     ensures { leaves (updated result) a.new ≡ write_in z a.old edition hash key value present }
 {
     let found = survey(&*a, z, edition, hash, key);
