@@ -43,7 +43,7 @@ module _ {X : Type 0} where
       let clear : bit (bitmap ks) i ≡ 0
       = bits_of ks asc i ∙ ap (on_found 0 (λ m. 1)) (child-Above i i ks a (omega arith)) in
       ⊎_elim
-      (λ e. rw (← e, child_hit i i m ks refl) (add_there (bitmap ks) i clear))
+      (λ e. rw (child_hit s i m ks e, ← e) (add_there (bitmap ks) i clear))
       (λ ne. rw (child_miss s i m ks ne) (add_only (bitmap ks) i clear s (λ e. ne (sym e)) ∙ bits_of ks asc s))
       (eq? i s)
 

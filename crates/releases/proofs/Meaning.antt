@@ -126,7 +126,7 @@ chain_means {z} {a} (suc n) r H l I od few =
     let S = entry_step r H l I nz (od nz) one in
     let some = (in_hand H r nz I).1 in
     let lent = Kept-Lent (kept_trans (take_out_Kept z a r 0 some) (give_back_Kept z _ r (refs_some z r some))) l in
-    let R = chain_means n ((columns z a).kid r 0) H lent S.local S.entries (omega (arith, S.fewer)) in
+    let R = chain_means {a = give_back_words z (take_out_words z a r 0) r} n ((columns z a).kid r 0) H lent S.local S.entries (omega (arith, S.fewer)) in
     rw (chain_last z r a n named (last_is z a r one))
     (record {
       free = R.free;

@@ -79,7 +79,7 @@ module _ (seg : ℕ → ℕ → ℕ) (W : Entry → Type 0) {X : Type 0} (b : �
   Big-insert (in_child d ks asc all r i) c a = tt
 
   -- a single that gets company is none
-  Big-company : {n : ℕ} {path : List ℕ} {m : Node X} (x : Item X) → matches e.hash e.key x.entry ≡ false
+  Big-company : (x : Item X) → matches e.hash e.key x.entry ≡ false → {n : ℕ} {path : List ℕ} {m : Node X}
       → InsertCase seg W b f e n path (leaf (x ∷ [])) m → Big m
   unfolding Big push_front
   Big-company x ne (in_chain xs) =

@@ -1,0 +1,24 @@
+-- `segments::index_from_hash` meets its contract: each arm is one of the laws of `index_of`, at the row that `degree_row` answered.
+-- Assumes nothing.
+use mathlib.Core.Path.{sym, ◌∙◌, ap}
+use Rattle.segments.specs.declared.Index.TheVariants.{At}
+use Rattle.segments.proofs.IndexLaws.{found_right, shift_below, index_at, index_Exhausted, index_no_degree}
+use Rattle.segments.proofs.index_from_hash.Goals as goal
+
+pub segment_at-requires : goal.segment_at-requires
+segment_at-requires c =
+    let found = sym c.degree_row.ensures ∙ c.in-Found.is in
+    (shift_below _ _ _ _ found _ c.if-depth-depths.true, (found_right _ _ _ _ found).few_bits)
+
+pub returns-then-depth-depths : goal.returns-then-depth-depths
+returns-then-depth-depths c =
+    let found = sym c.degree_row.ensures ∙ c.in-Found.is in
+    ap At c.segment_at.ensures ∙ sym (index_at _ _ _ _ found _ _ c.if-depth-depths.true)
+
+pub returns-else-depth-depths : goal.returns-else-depth-depths
+returns-else-depth-depths c =
+    let found = sym c.degree_row.ensures ∙ c.in-Found.is in
+    sym (index_Exhausted _ _ _ _ found _ _ c.if-depth-depths.false)
+
+pub returns-in-NotInTable : goal.returns-in-NotInTable
+returns-in-NotInTable c = sym (index_no_degree _ _ _ (sym c.degree_row.ensures ∙ c.in-NotInTable.is))
