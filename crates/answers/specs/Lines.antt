@@ -1,7 +1,7 @@
 -- A line of the stored answers: a letter, then numbers. oracle/README.md says how it is written; this is how it is read, byte
 -- by byte. It takes more than is written: spaces and signs '=' may stand in any number between the numbers.
-use Rattle.std.specs.Prelude.{Bool, true, false, cond, List, [], ◌∷◌, ℕ, ◌+◌, ◌*◌, ◌-◌, ◌^◌, eqb, ltb, leb, length, get_or, set, take, drop}
-use Rattle.bytes.specs.Bytes.{index_of, slice}
+use Rattle.std.specs.Prelude.{Bool, true, false, cond, List, [], ◌∷◌, ℕ, ◌+◌, ◌*◌, ◌-◌, ◌^◌, ◌==◌, eqb, ltb, leb, length, get_or, set, take, drop}
+use Rattle.std.specs.List.{position_or_len}
 use Rattle.answers.specs.declared.Line.{Line}
 use Rattle.answers.specs.declared.Numbers.{Numbers}
 
@@ -65,6 +65,10 @@ unfoldable pub line_to : List ℕ → ℕ → ℕ → Line
 line_to text at end =
     made_of (get_or text at 0) (behind_of text end) (closed_of (read_of start (take (end - (at + 1)) (drop (at + 1) text))))
 
+-- the first newline at a place or behind it, or the end of the text
+abbrev pub newline_from : List ℕ → ℕ → ℕ
+newline_from text from = from + position_or_len (λ b. b == 10) (drop from text)
+
 -- the line that begins at a place: up to the first newline behind it
 unfoldable pub line_at : List ℕ → ℕ → Line
-line_at text at = line_to text at (at + 1 + index_of 10 (slice (at + 1) (length text) text))
+line_at text at = line_to text at (newline_from text (at + 1))

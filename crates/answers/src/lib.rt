@@ -6,8 +6,9 @@
 
 #![tactic(auto)]
 
-ghost use Rattle.std.specs.Prelude.{◌≡◌, ◌≤◌, ◌<◌, length};
-ghost use Rattle.answers.specs.Lines.{digit_of, broken_of, kept_of, closed_of, longer_of, next_of, read_of, start, bare_of, behind_of, line_at};
+ghost use Rattle.std.specs.Prelude.{◌≡◌, ◌≤◌, ◌<◌, ◌==◌, length};
+ghost use Rattle.std.specs.List.{position};
+ghost use Rattle.answers.specs.Lines.{digit_of, broken_of, kept_of, closed_of, longer_of, next_of, read_of, start, bare_of, behind_of, newline_from, line_at};
 
 // The numbers of a line: a call has at most four arguments and four numbers in its answer.
 const MOST: usize = 8;
@@ -138,6 +139,26 @@ fn read_numbers(part: &[u8]) -> Numbers
     read.closed()
 }
 
+// Where the first newline stands, if there is one.
+fn newline(text: &[u8]) -> Option<usize>
+    ensures { result ≡ position (λ b. b == 10) text.now }
+{
+    text.iter().position(|b| *b == b'\n')
+}
+
+// Where the first newline from a place on stands, or the end of the text.
+fn find(text: &[u8], from: usize) -> usize
+    requires { from ≤ length text.now }
+    ensures answers { result ≡ newline_from text.now from }
+    ensures not_before { from ≤ result }
+    ensures in_text { result ≤ length text.now }
+{
+    match newline(&text[from..]) {
+        Some(at) => from + at,
+        None => text.len(),
+    }
+}
+
 // Where the line behind one that ends at `end` begins.
 fn behind(text: &[u8], end: usize) -> usize
     requires { end ≤ length text.now }
@@ -169,7 +190,7 @@ pub fn read_line(text: &[u8], at: usize) -> Line
 {
     let letter = text[at];
     let from = at + 1;
-    let end = bytes::scan::find(text, from, text.len(), b'\n');
+    let end = find(text, from);
     let next = behind(text, end);
     if letter == b'#' {
         return bare(letter, next);

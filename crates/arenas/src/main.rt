@@ -9,9 +9,11 @@ mod marked;
 mod sizes;
 mod smallest;
 
-fn main() {
-    degrees::show();
-    sizes::show();
-    smallest::show();
-    free_chains::show();
+use std::io;
+
+fn main(rt: HostRuntime) -> io::Result<()> {
+    degrees::show(&rt)?;
+    sizes::show(&rt)?;
+    smallest::show(&rt)?;
+    free_chains::show(&rt)
 }

@@ -8,6 +8,8 @@ mod keys;
 mod run;
 mod runs;
 
-fn main() {
-    runs::show();
+use std::io;
+
+fn main(rt: HostRuntime) -> io::Result<()> {
+    runs::show(&rt)
 }

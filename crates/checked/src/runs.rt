@@ -3,6 +3,7 @@ use crate::run;
 use crate::run::Run;
 use shelf::{Checked, InUse};
 use shown::answer;
+use std::io;
 
 const WORDS: usize = 8192;
 
@@ -61,34 +62,34 @@ fn turns(a: &mut [u64], small: bool) -> Run {
     run
 }
 
-fn say(run: Run) {
-    print::decimal(b": updates ", run.done);
-    print::decimal(b", absent ", run.absent);
-    print::decimal(b", no room ", run.full);
-    print::decimal(b"; sound ", run.sound);
-    print::decimal(b", others ", run.others);
-    print::say(b"\n");
+fn say(rt: &impl Print, run: Run) -> io::Result<()> {
+    print::decimal(rt, b": updates ", run.done)?;
+    print::decimal(rt, b", absent ", run.absent)?;
+    print::decimal(rt, b", no room ", run.full)?;
+    print::decimal(rt, b"; sound ", run.sound)?;
+    print::decimal(rt, b", others ", run.others)?;
+    print::say(rt, b"\n")
 }
 
-fn tell(degree: u64, branches: u64, entries: u64, small: bool) {
+fn tell(rt: &impl Print, degree: u64, branches: u64, entries: u64, small: bool) -> io::Result<()> {
     let mut a = [0u64; WORDS];
     shelf::format(&mut a, degree, branches, entries, run::SLOTS);
     shelf::new_edition(&mut a);
-    print::decimal(b"  degree ", degree);
-    print::decimal(b", cells ", branches);
-    print::decimal(b" ", entries);
-    say(turns(&mut a, small));
+    print::decimal(rt, b"  degree ", degree)?;
+    print::decimal(rt, b", cells ", branches)?;
+    print::decimal(rt, b" ", entries)?;
+    say(rt, turns(&mut a, small))
 }
 
-pub fn show() {
-    print::say(b"Checked after each of 480 turns (61 keys, 8 slots)\n");
-    tell(2, 400, 200, false);
-    tell(4, 400, 200, false);
-    tell(8, 300, 200, false);
-    tell(16, 200, 200, false);
-    tell(32, 150, 150, false);
-    tell(64, 100, 150, false);
-    print::say(b"And by reachability too (23 keys)\n");
-    tell(8, 64, 64, true);
-    tell(64, 64, 64, true);
+pub fn show(rt: &impl Print) -> io::Result<()> {
+    print::say(rt, b"Checked after each of 480 turns (61 keys, 8 slots)\n")?;
+    tell(rt, 2, 400, 200, false)?;
+    tell(rt, 4, 400, 200, false)?;
+    tell(rt, 8, 300, 200, false)?;
+    tell(rt, 16, 200, 200, false)?;
+    tell(rt, 32, 150, 150, false)?;
+    tell(rt, 64, 100, 150, false)?;
+    print::say(rt, b"And by reachability too (23 keys)\n")?;
+    tell(rt, 8, 64, 64, true)?;
+    tell(rt, 64, 64, 64, true)
 }

@@ -6,6 +6,8 @@
 mod small;
 mod turns;
 
-fn main() {
-    turns::show();
+use std::io;
+
+fn main(rt: HostRuntime) -> io::Result<()> {
+    turns::show(&rt)
 }

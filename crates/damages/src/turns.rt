@@ -2,6 +2,7 @@
 use crate::small;
 use shelf::Checked;
 use shown::{answer, lent};
+use std::io;
 
 const WORDS: usize = 1700;
 
@@ -108,42 +109,42 @@ fn try_words(a: &mut [u64], words: usize) -> Tried {
     tried
 }
 
-fn say(check: u64, plain: u64) {
+fn say(rt: &impl Print, check: u64, plain: u64) -> io::Result<()> {
     if check == 0 && plain == 0 {
-        print::say(b", sound\n");
+        print::say(rt, b", sound\n")
     } else {
-        print::say(b", NOT SOUND\n");
+        print::say(rt, b", NOT SOUND\n")
     }
 }
 
 // The arena itself: there are cells in use and free cells of both kinds.
-fn say_small(a: &[u64], degree: u64) {
-    print::decimal(b"  degree ", degree);
-    print::decimal(b": cells ", small::branches(degree));
-    print::decimal(b" ", small::ENTRIES);
-    answer::say_use(b", in use", a);
-    say(check(a), plainly(a));
+fn say_small(rt: &impl Print, a: &[u64], degree: u64) -> io::Result<()> {
+    print::decimal(rt, b"  degree ", degree)?;
+    print::decimal(rt, b": cells ", small::branches(degree))?;
+    print::decimal(rt, b" ", small::ENTRIES)?;
+    answer::say_use(rt, b", in use", a)?;
+    say(rt, check(a), plainly(a))
 }
 
-fn tell(degree: u64) {
+fn tell(rt: &impl Print, degree: u64) -> io::Result<()> {
     let mut a = [0u64; WORDS];
     small::make(&mut a, degree);
-    say_small(&a, degree);
+    say_small(rt, &a, degree)?;
     let words = small::words(degree);
     let tried = try_words(&mut a, words);
-    print::decimal(b"    each of ", words as u64);
-    print::decimal(b" words changed: ", tried.arenas);
-    print::decimal(b" arenas, of which sound ", tried.sound);
-    print::decimal(b", differences ", tried.differ);
-    print::say(b"\n");
+    print::decimal(rt, b"    each of ", words as u64)?;
+    print::decimal(rt, b" words changed: ", tried.arenas)?;
+    print::decimal(rt, b" arenas, of which sound ", tried.sound)?;
+    print::decimal(rt, b", differences ", tried.differ)?;
+    print::say(rt, b"\n")
 }
 
-pub fn show() {
-    print::say(b"Each word changed in turn (check, and a decision by reachability)\n");
-    tell(2);
-    tell(4);
-    tell(8);
-    tell(16);
-    tell(32);
-    tell(64);
+pub fn show(rt: &impl Print) -> io::Result<()> {
+    print::say(rt, b"Each word changed in turn (check, and a decision by reachability)\n")?;
+    tell(rt, 2)?;
+    tell(rt, 4)?;
+    tell(rt, 8)?;
+    tell(rt, 16)?;
+    tell(rt, 32)?;
+    tell(rt, 64)
 }

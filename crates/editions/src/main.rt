@@ -7,7 +7,9 @@ mod refusals;
 mod shared;
 mod slots;
 
-fn main() {
-    slots::show();
-    shared::show();
+use std::io;
+
+fn main(rt: HostRuntime) -> io::Result<()> {
+    slots::show(&rt)?;
+    shared::show(&rt)
 }

@@ -3,22 +3,23 @@
 ghost use Rattle.std.specs.Prelude.{◌<◌, ◌≤◌, length};
 
 use shown::{answer, lent};
+use std::io;
 
-fn no_slot(a: &mut [u64]) {
+fn no_slot(rt: &impl Print, a: &mut [u64]) -> io::Result<()> {
     let made = answer::of_made(shelf::new_edition(a));
     let shared = answer::of_made(shelf::share(a, 0));
-    print::decimal(b"    all held: new answers ", made);
-    print::decimal(b", share of 0 answers ", shared);
+    print::decimal(rt, b"    all held: new answers ", made)?;
+    print::decimal(rt, b", share of 0 answers ", shared)
 }
 
 // The edition is of a slot that is not held, or that is not there.
-pub fn no_such_edition(a: &mut [u64], edition: u64) {
+pub fn no_such_edition(rt: &impl Print, a: &mut [u64], edition: u64) -> io::Result<()> {
     let shared = answer::of_made(shelf::share(a, edition));
     let sized = answer::of_counted(shelf::size(a, edition));
-    print::decimal(b", share of ", edition);
-    print::decimal(b" answers ", shared);
-    print::decimal(b", size of ", edition);
-    print::decimal(b" answers ", sized);
+    print::decimal(rt, b", share of ", edition)?;
+    print::decimal(rt, b" answers ", shared)?;
+    print::decimal(rt, b", size of ", edition)?;
+    print::decimal(rt, b" answers ", sized)
 }
 
 // The four calls on a damaged arena. Three of them have another fault too, no free slot or no such edition, but 4 comes
@@ -70,15 +71,15 @@ fn cut(a: &mut [u64]) -> u64
 }
 
 // Every refusal on an arena whose slots are all held. The largest one that is shown has 255 words.
-pub fn show(a: &mut [u64])
+pub fn show(rt: &impl Print, a: &mut [u64]) -> io::Result<()>
     requires { 12 ≤ length a.old }
 {
     let mut before = [0u64; 255];
     lent::copy(a, &mut before);
-    no_slot(a);
-    no_such_edition(a, 4);
-    print::decimal(b"\n    words 0 to 7 damaged: 4 from ", raised(a));
-    print::decimal(b" of 32 calls; cut short: 4 from ", cut(a));
-    print::say(b" of 12 calls");
-    lent::say_kept(a, &before);
+    no_slot(rt, a)?;
+    no_such_edition(rt, a, 4)?;
+    print::decimal(rt, b"\n    words 0 to 7 damaged: 4 from ", raised(a))?;
+    print::decimal(rt, b" of 32 calls; cut short: 4 from ", cut(a))?;
+    print::say(rt, b" of 12 calls")?;
+    lent::say_kept(rt, a, &before)
 }

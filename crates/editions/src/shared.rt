@@ -5,6 +5,7 @@ ghost use Rattle.layout.specs.Layout.{Lent};
 use cells::{fill, free, slots};
 use layout::{Heading, Shape, header, words};
 use shown::{answer, lent};
+use std::io;
 
 // An entry in the first free cell, and slot 0 with it as its root.
 fn lay_in(a: &mut [u64], z: Shape)
@@ -19,45 +20,45 @@ fn lay_in(a: &mut [u64], z: Shape)
     }
 }
 
-fn lay(a: &mut [u64]) {
+fn lay(rt: &impl Print, a: &mut [u64]) -> io::Result<()> {
     match header::read(&*a) {
-        Heading::Right(z) => lay_in(a, z),
-        Heading::Wrong => print::say(b"  NO ARENA\n"),
+        Heading::Right(z) => { lay_in(a, z); Ok(()) },
+        Heading::Wrong => print::say(rt, b"  NO ARENA\n"),
     }
 }
 
 // The only entry cell lies behind the header, three slots and a branch cell. Its first word is the count.
-fn say_entry(a: &[u64])
+fn say_entry(rt: &impl Print, a: &[u64]) -> io::Result<()>
     requires { 46 ≤ length a.now }
 {
-    lent::say_part(b"; entry cell", a, 40, 46);
+    lent::say_part(rt, b"; entry cell", a, 40, 46)
 }
 
-fn share(a: &mut [u64], edition: u64)
+fn share(rt: &impl Print, a: &mut [u64], edition: u64) -> io::Result<()>
     requires { 46 ≤ length a.old }
 {
-    print::decimal(b"  share of ", edition);
-    answer::say_made(b":", shelf::share(a, edition));
-    say_entry(a);
+    print::decimal(rt, b"  share of ", edition)?;
+    answer::say_made(rt, b":", shelf::share(a, edition))?;
+    say_entry(rt, a)
 }
 
-fn read(a: &[u64]) {
-    print::say(b"  sizes");
-    answer::say_counted(shelf::size(a, 0));
-    answer::say_counted(shelf::size(a, 1));
-    answer::say_counted(shelf::size(a, 2));
-    answer::say_use(b"; in use", a);
-    print::say(b"\n");
+fn read(rt: &impl Print, a: &[u64]) -> io::Result<()> {
+    print::say(rt, b"  sizes")?;
+    answer::say_counted(rt, shelf::size(a, 0))?;
+    answer::say_counted(rt, shelf::size(a, 1))?;
+    answer::say_counted(rt, shelf::size(a, 2))?;
+    answer::say_use(rt, b"; in use", a)?;
+    print::say(rt, b"\n")
 }
 
-pub fn show() {
-    print::say(b"A share of an edition with a root (degree 16, 3 slots)\n");
+pub fn show(rt: &impl Print) -> io::Result<()> {
+    print::say(rt, b"A share of an edition with a root (degree 16, 3 slots)\n")?;
     let mut a = [0u64; 46];
     shelf::format(&mut a, 16, 1, 1, 3);
-    lay(&mut a);
-    print::say(b"  laid in slot 0");
-    say_entry(&a);
-    share(&mut a, 0);
-    share(&mut a, 1);
-    read(&a);
+    lay(rt, &mut a)?;
+    print::say(rt, b"  laid in slot 0")?;
+    say_entry(rt, &a)?;
+    share(rt, &mut a, 0)?;
+    share(rt, &mut a, 1)?;
+    read(rt, &a)
 }

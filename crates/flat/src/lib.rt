@@ -3,6 +3,7 @@
 //! specs/Answers.antt of `replies`; specs/Flat.antt says how a call that answers the struct is stated.
 
 #![tactic(auto)]
+
 ghost use Rattle.std.specs.Prelude.{◌≡◌};
 ghost use Rattle.replies.specs.Answers.{answer, refused, formatted, made, updated, counted, in_use_answer, dropped, checked, found, compared};
 ghost use Rattle.flat.specs.Flat.{held};

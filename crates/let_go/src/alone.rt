@@ -1,27 +1,28 @@
 //! K1 to K5 held, and dropped one by one until K5 stands alone, and K5 last. After each drop every slot is listed: the
 //! editions that are left stay as they were.
 use shown::{answer, listed, steps};
+use std::io;
 
-fn let_go(a: &mut [u64], label: &[u8], edition: u64) {
-    print::say(label);
-    answer::say_dropped(shelf::drop(a, edition));
-    answer::say_use(b"; in use", a);
-    print::say(b"\n");
-    listed::first(a, 6);
+fn let_go(rt: &impl Print, a: &mut [u64], label: &[u8], edition: u64) -> io::Result<()> {
+    print::say(rt, label)?;
+    answer::say_dropped(rt, shelf::drop(a, edition))?;
+    answer::say_use(rt, b"; in use", a)?;
+    print::say(rt, b"\n")?;
+    listed::first(rt, a, 6)
 }
 
 // The arena has the 21 branch cells, 5 entry cells and 6 slots that are needed: 459 words.
-pub fn show() {
-    print::say(b"K1 to K5, let go one by one (degree 16)\n");
+pub fn show(rt: &impl Print) -> io::Result<()> {
+    print::say(rt, b"K1 to K5, let go one by one (degree 16)\n")?;
     let mut a = [0u64; 459];
     shelf::format(&mut a, 16, 21, 5, 6);
     steps::before(&mut a, 6);
-    answer::say_use(b"  K1 to K5 held: in use", &a);
-    print::say(b"\n");
-    let_go(&mut a, b"  the empty edition:", 0);
-    let_go(&mut a, b"  K1:", 1);
-    let_go(&mut a, b"  K2:", 2);
-    let_go(&mut a, b"  K3:", 3);
-    let_go(&mut a, b"  K4:", 4);
-    let_go(&mut a, b"  K5:", 5);
+    answer::say_use(rt, b"  K1 to K5 held: in use", &a)?;
+    print::say(rt, b"\n")?;
+    let_go(rt, &mut a, b"  the empty edition:", 0)?;
+    let_go(rt, &mut a, b"  K1:", 1)?;
+    let_go(rt, &mut a, b"  K2:", 2)?;
+    let_go(rt, &mut a, b"  K3:", 3)?;
+    let_go(rt, &mut a, b"  K4:", 4)?;
+    let_go(rt, &mut a, b"  K5:", 5)
 }

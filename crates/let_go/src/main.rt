@@ -6,7 +6,9 @@
 mod alone;
 mod refusals;
 
-fn main() {
-    alone::show();
-    refusals::show();
+use std::io;
+
+fn main(rt: HostRuntime) -> io::Result<()> {
+    alone::show(&rt)?;
+    refusals::show(&rt)
 }

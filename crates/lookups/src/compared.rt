@@ -1,22 +1,24 @@
 //! Each edition with each, and with slots where there is none.
 use crate::{answer, stored};
+use std::io;
 
-fn row(a: &[u64], first: u64) {
-    print::decimal(b"  ", first);
-    print::say(b":");
+fn row(rt: &impl Print, a: &[u64], first: u64) -> io::Result<()> {
+    print::decimal(rt, b"  ", first)?;
+    print::say(rt, b":")?;
     let mut second = 0;
     while second <= stored::EDITIONS {
-        answer::say_compared(shelf::equal(a, first, second));
+        answer::say_compared(rt, shelf::equal(a, first, second))?;
         second += 1;
     }
-    print::say(b"\n");
+    print::say(rt, b"\n")
 }
 
-pub fn show(a: &[u64]) {
-    print::say(b"Equal (=) or not (.), editions 0 to 9 with 0 to 9\n");
+pub fn show(rt: &impl Print, a: &[u64]) -> io::Result<()> {
+    print::say(rt, b"Equal (=) or not (.), editions 0 to 9 with 0 to 9\n")?;
     let mut first = 0;
     while first <= stored::EDITIONS {
-        row(a, first);
+        row(rt, a, first)?;
         first += 1;
     }
+Ok(())
 }

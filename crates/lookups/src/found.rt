@@ -2,38 +2,39 @@
 ghost use Rattle.std.specs.Prelude.{◌≤◌};
 
 use crate::{answer, stored};
+use std::io;
 
-fn get_all(a: &[u64], label: &[u8], hash: u64, key: u64) {
-    print::say(label);
+fn get_all(rt: &impl Print, a: &[u64], label: &[u8], hash: u64, key: u64) -> io::Result<()> {
+    print::say(rt, label)?;
     let mut edition = 0;
     while edition <= stored::EDITIONS {
-        answer::say_got(shelf::get(a, edition, hash, key));
+        answer::say_got(rt, shelf::get(a, edition, hash, key))?;
         edition += 1;
     }
-    print::say(b"\n");
+    print::say(rt, b"\n")
 }
 
 // The key, then another key under its hash, and its key under hashes that differ in the lowest segment, in the next, and
 // in the highest bit.
-fn near(a: &[u64], name: &[u8], hash: u64, key: u64)
+fn near(rt: &impl Print, a: &[u64], name: &[u8], hash: u64, key: u64) -> io::Result<()>
     requires { key ≤ 5 }
 {
-    print::say(name);
-    get_all(a, b"    ", hash, key);
-    get_all(a, b"    next key     ", hash, key + 1);
-    get_all(a, b"    key 0        ", hash, 0);
-    get_all(a, b"    other lowest ", hash ^ 1, key);
-    get_all(a, b"    other second ", hash ^ 16, key);
-    get_all(a, b"    other highest", hash ^ (1u64 << 63), key);
+    print::say(rt, name)?;
+    get_all(rt, a, b"    ", hash, key)?;
+    get_all(rt, a, b"    next key     ", hash, key + 1)?;
+    get_all(rt, a, b"    key 0        ", hash, 0)?;
+    get_all(rt, a, b"    other lowest ", hash ^ 1, key)?;
+    get_all(rt, a, b"    other second ", hash ^ 16, key)?;
+    get_all(rt, a, b"    other highest", hash ^ (1u64 << 63), key)
 }
 
-pub fn show(a: &[u64]) {
-    print::say(b"Get, in editions 0 to 9\n");
-    near(a, b"  A\n", 0x26, 1);
-    near(a, b"  B\n", 0x16, 2);
-    near(a, b"  C\n", 0x42, 3);
-    near(a, b"  D\n", 0x7000000000000008, 4);
-    near(a, b"  E\n", 0x7000000000000008, 5);
-    print::say(b"  D's key under C's hash\n");
-    get_all(a, b"    ", 0x42, 4);
+pub fn show(rt: &impl Print, a: &[u64]) -> io::Result<()> {
+    print::say(rt, b"Get, in editions 0 to 9\n")?;
+    near(rt, a, b"  A\n", 0x26, 1)?;
+    near(rt, a, b"  B\n", 0x16, 2)?;
+    near(rt, a, b"  C\n", 0x42, 3)?;
+    near(rt, a, b"  D\n", 0x7000000000000008, 4)?;
+    near(rt, a, b"  E\n", 0x7000000000000008, 5)?;
+    print::say(rt, b"  D's key under C's hash\n")?;
+    get_all(rt, a, b"    ", 0x42, 4)
 }

@@ -3,6 +3,7 @@ ghost use Rattle.std.specs.Prelude.{◌≤◌};
 
 use crate::stored;
 use shown::{answer, listed};
+use std::io;
 
 // What stands in the output before a call.
 const MARK: u64 = 99;
@@ -14,10 +15,10 @@ fn word(words: &[u64], i: usize) -> u64 {
     if i < words.len() { words[i] } else { MARK }
 }
 
-fn whole(a: &[u64], edition: u64) {
-    print::decimal(b"  edition ", edition);
-    print::say(b": answers");
-    listed::whole(a, edition);
+fn whole(rt: &impl Print, a: &[u64], edition: u64) -> io::Result<()> {
+    print::decimal(rt, b"  edition ", edition)?;
+    print::say(rt, b": answers")?;
+    listed::whole(rt, a, edition)
 }
 
 // Whether the output holds the words of the listing from a place on, and the mark in all the others.
@@ -40,44 +41,46 @@ fn is_part(all: &[u64], place: usize, n: u64, out: &[u64]) -> bool
 }
 
 // What a listing from a place answers with the first `room` words of the output, and whether all its words are right.
-fn from_place(a: &[u64], all: &[u64], place: usize, room: usize)
+fn from_place(rt: &impl Print, a: &[u64], all: &[u64], place: usize, room: usize) -> io::Result<()>
     requires { (place ≤ 6) × (room ≤ 17) }
 {
     let mut out = [MARK; FULL];
     let answer = shelf::list(a, 0, place as u64, &mut out[..room]);
     let n = answer::entries(answer);
-    answer::say_counted(answer);
+    answer::say_counted(rt, answer)?;
     if !is_part(all, place, n, &out) {
-        print::say(b" WRONG");
+        print::say(rt, b" WRONG")?;
     }
+Ok(())
 }
 
-fn every_room(a: &[u64], all: &[u64], place: usize)
+fn every_room(rt: &impl Print, a: &[u64], all: &[u64], place: usize) -> io::Result<()>
     requires { place ≤ 6 }
 {
-    print::decimal(b"  from ", place as u64);
-    print::say(b":");
+    print::decimal(rt, b"  from ", place as u64)?;
+    print::say(rt, b":")?;
     let mut room = 0;
     while room <= FULL {
-        from_place(a, all, place, room);
+        from_place(rt, a, all, place, room)?;
         room += 1;
     }
-    print::say(b"\n");
+    print::say(rt, b"\n")
 }
 
-pub fn show(a: &[u64]) {
-    print::say(b"Listed whole\n");
+pub fn show(rt: &impl Print, a: &[u64]) -> io::Result<()> {
+    print::say(rt, b"Listed whole\n")?;
     let mut edition = 0;
     while edition <= stored::EDITIONS {
-        whole(a, edition);
+        whole(rt, a, edition)?;
         edition += 1;
     }
-    print::say(b"K5 from each place, with room for 0 to 17 words\n");
+    print::say(rt, b"K5 from each place, with room for 0 to 17 words\n")?;
     let mut all = [MARK; FULL];
     shelf::list(a, 0, 0, &mut all);
     let mut place = 0;
     while place <= 6 {
-        every_room(a, &all, place);
+        every_room(rt, a, &all, place)?;
         place += 1;
     }
+Ok(())
 }

@@ -10,12 +10,14 @@ mod found;
 mod listed;
 mod stored;
 
-fn main() {
+use std::io;
+
+fn main(rt: HostRuntime) -> io::Result<()> {
     let mut a = [0u64; stored::WORDS];
     stored::lay_out(&mut a);
-    stored::show(&a);
-    found::show(&a);
-    listed::show(&a);
-    compared::show(&a);
-    damaged::show(&mut a);
+    stored::show(&rt, &a)?;
+    found::show(&rt, &a)?;
+    listed::show(&rt, &a)?;
+    compared::show(&rt, &a)?;
+    damaged::show(&rt, &mut a)
 }

@@ -13,6 +13,7 @@
 ghost use Rattle.std.specs.Prelude.{◌≤◌};
 
 use shown::answer;
+use std::io;
 
 pub const WORDS: usize = 815;
 
@@ -143,7 +144,7 @@ pub fn lay_out(a: &mut [u64]) {
     other_entries(a, at);
 }
 
-pub fn show(a: &[u64]) {
-    answer::say_use(b"Cells in use", a);
-    print::say(b"\n");
+pub fn show(rt: &impl Print, a: &[u64]) -> io::Result<()> {
+    answer::say_use(rt, b"Cells in use", a)?;
+    print::say(rt, b"\n")
 }

@@ -5,6 +5,7 @@ ghost use Rattle.std.specs.Prelude.{◌≤◌};
 use crate::free_cells;
 use shelf::{Dropped, InUse};
 use shown::{answer, lent};
+use std::io;
 
 // The words of the largest arena, and the slots of each.
 const WORDS: usize = 997;
@@ -112,21 +113,21 @@ fn listed_otherwise(a: &[u64], before: &[u64]) -> u64 {
 }
 
 // A drop that is to leave so many editions. Answers how much is not as it should be behind it.
-fn let_go(a: &mut [u64], before: &[u64], edition: u64, left: u64) -> u64
+fn let_go(rt: &impl Print, a: &mut [u64], before: &[u64], edition: u64, left: u64) -> io::Result<u64>
     requires { edition ≤ 6 }
 {
     let was = in_use(a);
     let answer = shelf::drop(a, edition);
-    print::decimal(b" ", edition);
-    answer::say_dropped(answer);
+    print::decimal(rt, b" ", edition)?;
+    answer::say_dropped(rt, answer)?;
     let listed = listed_otherwise(a, before);
     let fallen = count_other(listed, is_fall(was, in_use(a), answer));
-    count_other(fallen, !is_held(a, edition) && held(a) == left)
+    Ok(count_other(fallen, !is_held(a, edition) && held(a) == left))
 }
 
 // So many editions dropped, in the order of a number: what it leaves when it is divided by how many are left says which is
 // next.
-fn drop_all(a: &mut [u64], before: &[u64], editions: u64, order: u64) -> u64 {
+fn drop_all(rt: &impl Print, a: &mut [u64], before: &[u64], editions: u64, order: u64) -> io::Result<u64> {
     let mut other = 0;
     let mut rest = order;
     let mut left = editions;
@@ -134,35 +135,35 @@ fn drop_all(a: &mut [u64], before: &[u64], editions: u64, order: u64) -> u64 {
         let edition = held_behind(a, rest % left);
         rest = rest / left;
         left -= 1;
-        other = std::num::wrapping_add_u64(other, let_go(a, before, edition, left));
+        other = std::num::wrapping_add_u64(other, let_go(rt, a, before, edition, left)?);
         if 0 < left {
-            print::say(b";");
+            print::say(rt, b";")?;
         }
     }
-    other
+    Ok(other)
 }
 
-fn in_order(before: &[u64], set: Set, order: u64) -> u64 {
+fn in_order(rt: &impl Print, before: &[u64], set: Set, order: u64) -> io::Result<u64> {
     let mut a = [0u64; WORDS];
     lent::copy(before, &mut a);
-    print::say(b"   ");
-    let other = drop_all(&mut a, before, set.editions, order);
-    print::say(b"\n");
-    count_other(other, free_cells::is_all(&a, set.branches, set.entries))
+    print::say(rt, b"   ")?;
+    let other = drop_all(rt, &mut a, before, set.editions, order)?;
+    print::say(rt, b"\n")?;
+    Ok(count_other(other, free_cells::is_all(&a, set.branches, set.entries)))
 }
 
 // The editions of an arena in every order.
-pub fn order(before: &[u64], set: Set) {
+pub fn order(rt: &impl Print, before: &[u64], set: Set) -> io::Result<()> {
     let mut other = 0;
     let mut order = 0;
     while order < set.orders {
-        other = std::num::wrapping_add_u64(other, in_order(before, set, order));
+        other = std::num::wrapping_add_u64(other, in_order(rt, before, set, order)?);
         order += 1;
     }
-    print::decimal(b"    ", set.orders);
-    print::decimal(
+    print::decimal(rt, b"    ", set.orders)?;
+    print::decimal(rt, 
         b" orders: each edition left listed as before, in use less by what is freed, every cell free at the end: ",
         other,
-    );
-    print::say(b" differences\n");
+    )?;
+    print::say(rt, b" differences\n")
 }

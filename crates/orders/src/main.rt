@@ -7,6 +7,8 @@ mod every;
 mod free_cells;
 mod sets;
 
-fn main() {
-    sets::show();
+use std::io;
+
+fn main(rt: HostRuntime) -> io::Result<()> {
+    sets::show(&rt)
 }

@@ -2,6 +2,7 @@
 use crate::every;
 use crate::every::Set;
 use shown::{answer, entries, steps};
+use std::io;
 
 fn format(a: &mut [u64], set: Set) {
     shelf::format(a, 16, set.branches, set.entries, 6);
@@ -65,51 +66,51 @@ fn four(branches: u64, entries: u64) -> Set {
     }
 }
 
-fn show_three_steps() {
-    print::say(b"  K1, K2 and K3\n");
+fn show_three_steps(rt: &impl Print) -> io::Result<()> {
+    print::say(rt, b"  K1, K2 and K3\n")?;
     let mut a = [0u64; 124];
     format(&mut a, three(4, 3));
     first_steps(&mut a, 3);
-    every::order(&a, three(4, 3));
+    every::order(rt, &a, three(4, 3))
 }
 
-fn show_four_steps() {
-    print::say(b"  K1, K2, K3 and K4\n");
+fn show_four_steps(rt: &impl Print) -> io::Result<()> {
+    print::say(rt, b"  K1, K2, K3 and K4\n")?;
     let mut a = [0u64; 149];
     format(&mut a, four(5, 4));
     first_steps(&mut a, 4);
-    every::order(&a, four(5, 4));
+    every::order(rt, &a, four(5, 4))
 }
 
-fn show_roots() {
-    print::say(b"  K9, a share of K9, K2 and K10\n");
+fn show_roots(rt: &impl Print) -> io::Result<()> {
+    print::say(rt, b"  K9, a share of K9, K2 and K10\n")?;
     let mut a = [0u64; 124];
     format(&mut a, four(4, 3));
     roots(&mut a);
-    every::order(&a, four(4, 3));
+    every::order(rt, &a, four(4, 3))
 }
 
-fn show_short_chains() {
-    print::say(b"  K7, K8 and K5\n");
+fn show_short_chains(rt: &impl Print) -> io::Result<()> {
+    print::say(rt, b"  K7, K8 and K5\n")?;
     let mut a = [0u64; 465];
     format(&mut a, three(21, 6));
     short_chains(&mut a);
-    every::order(&a, three(21, 6));
+    every::order(rt, &a, three(21, 6))
 }
 
-fn show_long_chains() {
-    print::say(b"  K5 with key 6, without key 6 again, and K5\n");
+fn show_long_chains(rt: &impl Print) -> io::Result<()> {
+    print::say(rt, b"  K5 with key 6, without key 6 again, and K5\n")?;
     let mut a = [0u64; 997];
     format(&mut a, three(49, 6));
     long_chains(&mut a);
-    every::order(&a, three(49, 6));
+    every::order(rt, &a, three(49, 6))
 }
 
-pub fn show() {
-    print::say(b"Editions dropped in every order (degree 16)\n");
-    show_three_steps();
-    show_four_steps();
-    show_roots();
-    show_short_chains();
-    show_long_chains();
+pub fn show(rt: &impl Print) -> io::Result<()> {
+    print::say(rt, b"Editions dropped in every order (degree 16)\n")?;
+    show_three_steps(rt)?;
+    show_four_steps(rt)?;
+    show_roots(rt)?;
+    show_short_chains(rt)?;
+    show_long_chains(rt)
 }

@@ -2,19 +2,21 @@
 //! the shelf.
 
 #![tactic(auto)]
-use libc::STDOUT_FILENO;
 
-pub fn say(text: &[u8]) {
-    io::write_all(STDOUT_FILENO, text);
+use std::io;
+
+pub fn say(rt: &impl Print, text: &[u8]) -> io::Result<()> {
+    rt.write_all(text)
 }
 
-pub fn decimal(label: &[u8], n: u64) {
-    say(label);
-    io::print_decimal(STDOUT_FILENO, n);
+pub fn decimal(rt: &impl Print, label: &[u8], n: u64) -> io::Result<()> {
+    say(rt, label)?;
+    print!(rt; "{n}")
 }
 
-// Hexadecimal digits, with zeros in front up to the width.
-pub fn hex(label: &[u8], n: u64, width: usize) {
-    say(label);
-    io::print_hex(STDOUT_FILENO, n, width);
+// Hexadecimal digits, with zeros in front up to the width, which lies between 1 and 16.
+pub fn hex(rt: &impl Print, label: &[u8], n: u64, width: usize) -> io::Result<()> {
+    say(rt, label)?;
+    let width = width.clamp(1, 16);
+    print!(rt; "{n:0width$x}")
 }

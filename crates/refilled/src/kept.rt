@@ -1,6 +1,7 @@
 //! All editions dropped but one, which lists as before.
 use shelf::Dropped;
 use shown::{answer, lent};
+use std::io;
 
 // How many editions were dropped, and the cells that they freed.
 #[derive(Clone, Copy)]
@@ -66,17 +67,17 @@ fn sum(words: &[u64]) -> u64 {
 // No edition that is kept has more than 40 entries.
 const FULL: usize = 120;
 
-pub fn alone(a: &mut [u64], slots: u64, kept: u64, down: bool) -> Freed {
+pub fn alone(rt: &impl Print, a: &mut [u64], slots: u64, kept: u64, down: bool) -> io::Result<Freed> {
     let mut before = [0u64; FULL];
     let mut behind = [0u64; FULL];
-    answer::say_counted(shelf::list(a, kept, 0, &mut before));
-    print::decimal(b" entries, sum ", sum(&before));
+    answer::say_counted(rt, shelf::list(a, kept, 0, &mut before))?;
+    print::decimal(rt, b" entries, sum ", sum(&before))?;
     let freed = drop_others(a, slots, kept, down);
     shelf::list(a, kept, 0, &mut behind);
     if lent::is_same(&before, &behind) {
-        print::say(b", listed as before");
+        print::say(rt, b", listed as before")?;
     } else {
-        print::say(b", LISTED OTHERWISE");
+        print::say(rt, b", LISTED OTHERWISE")?;
     }
-    freed
+    Ok(freed)
 }

@@ -9,6 +9,8 @@ mod kept;
 mod keys;
 mod rounds;
 
-fn main() {
-    rounds::show();
+use std::io;
+
+fn main(rt: HostRuntime) -> io::Result<()> {
+    rounds::show(&rt)
 }

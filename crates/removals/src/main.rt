@@ -7,7 +7,9 @@ mod root;
 mod rows;
 mod shows;
 
-fn main() {
-    rows::show();
-    root::show();
+use std::io;
+
+fn main(rt: HostRuntime) -> io::Result<()> {
+    rows::show(&rt)?;
+    root::show(&rt)
 }

@@ -1,34 +1,35 @@
 //! K9, whose root is an entry: what is inserted into it, changed in it and taken out of it.
 use crate::shows;
 use shown::steps;
+use std::io;
 
-fn inserts(a: &mut [u64]) {
-    shows::insert(a, b"  K10, A into 3", 3, 0x26, 1, 10);
-    shows::insert(a, b"  B with 21 into 3", 3, 0x16, 2, 21);
-    shows::insert(a, b"  key 3 under B's hash into 3", 3, 0x16, 3, 30);
-    shows::insert(a, b"  C into 3", 3, 0x42, 3, 30);
+fn inserts(rt: &impl Print, a: &mut [u64]) -> io::Result<()> {
+    shows::insert(rt, a, b"  K10, A into 3", 3, 0x26, 1, 10)?;
+    shows::insert(rt, a, b"  B with 21 into 3", 3, 0x16, 2, 21)?;
+    shows::insert(rt, a, b"  key 3 under B's hash into 3", 3, 0x16, 3, 30)?;
+    shows::insert(rt, a, b"  C into 3", 3, 0x42, 3, 30)
 }
 
-fn change(a: &mut [u64]) {
+fn change(rt: &impl Print, a: &mut [u64]) -> io::Result<()> {
     let answer = shelf::change(a, 3, 0x16, 2, 22);
-    shows::update(a, b"  B changed to 22 in 3", answer);
+    shows::update(rt, a, b"  B changed to 22 in 3", answer)
 }
 
 // The chain of two becomes a single, and the path above it goes; the two behind it leave nothing.
-fn removes(a: &mut [u64]) {
-    shows::remove(a, b"  key 3 out of 6", 6, 0x16, 3);
-    shows::remove(a, b"  B out of 3", 3, 0x16, 2);
-    shows::remove(a, b"  B out of 8", 8, 0x16, 2);
+fn removes(rt: &impl Print, a: &mut [u64]) -> io::Result<()> {
+    shows::remove(rt, a, b"  key 3 out of 6", 6, 0x16, 3)?;
+    shows::remove(rt, a, b"  B out of 3", 3, 0x16, 2)?;
+    shows::remove(rt, a, b"  B out of 8", 8, 0x16, 2)
 }
 
 // The arena has the 22 branch cells, 7 entry cells and 12 slots that are needed: 508 words.
-pub fn show() {
-    print::say(b"A root that is the entry B (degree 16)\n");
+pub fn show(rt: &impl Print) -> io::Result<()> {
+    print::say(rt, b"A root that is the entry B (degree 16)\n")?;
     let mut a = [0u64; 508];
     shelf::format(&mut a, 16, 22, 7, 12);
     steps::before(&mut a, 3);
-    shows::remove(&mut a, b"  K9, A out of 2", 2, 0x26, 1);
-    inserts(&mut a);
-    change(&mut a);
-    removes(&mut a);
+    shows::remove(rt, &mut a, b"  K9, A out of 2", 2, 0x26, 1)?;
+    inserts(rt, &mut a)?;
+    change(rt, &mut a)?;
+    removes(rt, &mut a)
 }

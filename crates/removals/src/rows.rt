@@ -2,54 +2,55 @@
 //! every edition is listed: the older ones stay as they were.
 use crate::shows;
 use shown::{answer, entries, listed, steps};
+use std::io;
 
-fn to_k5(a: &mut [u64]) {
+fn to_k5(rt: &impl Print, a: &mut [u64]) -> io::Result<()> {
     steps::before(a, 6);
-    answer::say_use(b"  K1 to K5: in use", a);
-    print::say(b"\n");
-    listed::first(a, 6);
+    answer::say_use(rt, b"  K1 to K5: in use", a)?;
+    print::say(rt, b"\n")?;
+    listed::first(rt, a, 6)
 }
 
 // K7 is edition 6, K8 edition 7, K9 edition 8 and K10 edition 9.
-fn to_k10(a: &mut [u64]) {
-    shows::remove(a, b"  K7, D out of 5", 5, entries::CHAIN, 4);
-    shows::remove(a, b"  K8, E out of 5", 5, entries::CHAIN, 5);
-    shows::remove(a, b"  K9, A out of 2", 2, 0x26, 1);
-    shows::insert(a, b"  K10, A into 8", 8, 0x26, 1, 10);
+fn to_k10(rt: &impl Print, a: &mut [u64]) -> io::Result<()> {
+    shows::remove(rt, a, b"  K7, D out of 5", 5, entries::CHAIN, 4)?;
+    shows::remove(rt, a, b"  K8, E out of 5", 5, entries::CHAIN, 5)?;
+    shows::remove(rt, a, b"  K9, A out of 2", 2, 0x26, 1)?;
+    shows::insert(rt, a, b"  K10, A into 8", 8, 0x26, 1, 10)
 }
 
 // K6 is edition 12.
-fn also(a: &mut [u64]) {
-    shows::insert(
+fn also(rt: &impl Print, a: &mut [u64]) -> io::Result<()> {
+    shows::insert(rt, 
         a,
         b"  key 6 under D's hash into 5",
         5,
         entries::CHAIN,
         6,
         60,
-    );
-    shows::remove(a, b"  key 6 out of 10", 10, entries::CHAIN, 6);
-    shows::insert(a, b"  K6, D with 41 into 5", 5, entries::CHAIN, 4, 41);
-    shows::remove(a, b"  D out of 12", 12, entries::CHAIN, 4);
-    shows::remove(a, b"  A out of 1", 1, 0x26, 1);
+    )?;
+    shows::remove(rt, a, b"  key 6 out of 10", 10, entries::CHAIN, 6)?;
+    shows::insert(rt, a, b"  K6, D with 41 into 5", 5, entries::CHAIN, 4, 41)?;
+    shows::remove(rt, a, b"  D out of 12", 12, entries::CHAIN, 4)?;
+    shows::remove(rt, a, b"  A out of 1", 1, 0x26, 1)
 }
 
-fn compare(a: &[u64]) {
-    answer::say_compared(a, b"  K4 and K8:", 4, 7);
-    answer::say_compared(a, b"  K7 and K8:", 6, 7);
-    answer::say_compared(a, b"  K2 and K10:", 2, 9);
-    answer::say_compared(a, b"  K5 and key 6 put in and taken out:", 5, 11);
-    answer::say_compared(a, b"  K7 and D out of K6:", 6, 13);
-    answer::say_compared(a, b"  the empty edition and A out of K1:", 0, 14);
+fn compare(rt: &impl Print, a: &[u64]) -> io::Result<()> {
+    answer::say_compared(rt, a, b"  K4 and K8:", 4, 7)?;
+    answer::say_compared(rt, a, b"  K7 and K8:", 6, 7)?;
+    answer::say_compared(rt, a, b"  K2 and K10:", 2, 9)?;
+    answer::say_compared(rt, a, b"  K5 and key 6 put in and taken out:", 5, 11)?;
+    answer::say_compared(rt, a, b"  K7 and D out of K6:", 6, 13)?;
+    answer::say_compared(rt, a, b"  the empty edition and A out of K1:", 0, 14)
 }
 
 // The arena has 110 branch cells, 16 entry cells and 16 slots: 2,246 words.
-pub fn show() {
-    print::say(b"Removals from the shelf table (degree 16)\n");
+pub fn show(rt: &impl Print) -> io::Result<()> {
+    print::say(rt, b"Removals from the shelf table (degree 16)\n")?;
     let mut a = [0u64; 2246];
     shelf::format(&mut a, 16, 110, 16, 16);
-    to_k5(&mut a);
-    to_k10(&mut a);
-    also(&mut a);
-    compare(&a);
+    to_k5(rt, &mut a)?;
+    to_k10(rt, &mut a)?;
+    also(rt, &mut a)?;
+    compare(rt, &a)
 }

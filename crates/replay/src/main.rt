@@ -12,6 +12,7 @@ ghost use Rattle.io.specs.Counts.{IsPrefixLen};
 
 use answers::Line;
 use score::Score;
+use std::io;
 
 // What a file is about, and how far it was replayed.
 #[derive(Clone, Copy)]
@@ -49,16 +50,16 @@ fn take_line(file: File, words: &mut [u64], out: &mut [u64], line: Line) -> Afte
     }
 }
 
-fn show(file: File, score: Score) {
+fn show(rt: &impl Print, file: File, score: Score) -> io::Result<()> {
     match file {
-        File::Leaves(tally) => print::decimal(b": index_from_hash ", tally.indexes),
-        File::Editions(tally) => print::decimal(b": entries listed ", tally.entries),
+        File::Leaves(tally) => print::decimal(rt, b": index_from_hash ", tally.indexes)?,
+        File::Editions(tally) => print::decimal(rt, b": entries listed ", tally.entries)?,
     }
-    score.show();
+    score.show(rt)
 }
 
 // Replays the lines of a file, with words for what they are replayed on, and an output for what is listed.
-fn replay(text: &[u8], words: &mut [u64], out: &mut [u64], first: File) -> Score {
+fn replay(rt: &impl Print, text: &[u8], words: &mut [u64], out: &mut [u64], first: File) -> io::Result<Score> {
     let mut file = first;
     let mut score = Score::new();
     let mut at = 0;
@@ -70,8 +71,8 @@ fn replay(text: &[u8], words: &mut [u64], out: &mut [u64], first: File) -> Score
         file = after.file;
         score = score.line(line.letter, numbers[0], after.right);
     }
-    show(file, score);
-    score
+    show(rt, file, score)?;
+    Ok(score)
 }
 
 // Reads a file of the data folder, and answers how many bytes it has; none, and a message, where it cannot be read.
@@ -88,49 +89,50 @@ fn read(name: &[u8], text: &mut [u8]) -> usize
     length
 }
 
-fn replay_file(name: &[u8], words: &mut [u64], file: File) -> Score {
+fn replay_file(rt: &impl Print, name: &[u8], words: &mut [u64], file: File) -> io::Result<Score> {
     let mut text = io::large_buffer();
     let mut out = [0u64; 1024];
     let length = read(name, &mut text);
-    print::say(name);
-    replay(&text[..length], words, &mut out, file)
+    print::say(rt, name)?;
+    replay(rt, &text[..length], words, &mut out, file)
 }
 
 // A sparse array has at most 64 words.
-fn replay_leaves(name: &[u8]) {
+fn replay_leaves(rt: &impl Print, name: &[u8]) -> io::Result<()> {
     let mut words = [0u64; 64];
-    replay_file(name, &mut words, File::Leaves(leaves::Tally::new()));
+    replay_file(rt, name, &mut words, File::Leaves(leaves::Tally::new()))?;
+Ok(())
 }
 
 // A file on editions, and the files before it. No arena of the stored answers has more words.
-fn replay_editions(before: Score, name: &[u8], degree: u64) -> Score {
+fn replay_editions(rt: &impl Print, before: Score, name: &[u8], degree: u64) -> io::Result<Score> {
     let mut words = [0u64; 8192];
     let tally = editions::Tally::new(degree);
-    before.and(replay_file(name, &mut words, File::Editions(tally)))
+    Ok(before.and(replay_file(rt, name, &mut words, File::Editions(tally))?))
 }
 
 // All calls, at each degree.
-fn replay_degrees(before: Score) -> Score {
-    let mut all = replay_editions(before, b"degree_02", 2);
-    all = replay_editions(all, b"degree_04", 4);
-    all = replay_editions(all, b"degree_08", 8);
-    all = replay_editions(all, b"degree_16", 16);
-    all = replay_editions(all, b"degree_32", 32);
-    replay_editions(all, b"degree_64", 64)
+fn replay_degrees(rt: &impl Print, before: Score) -> io::Result<Score> {
+    let mut all = replay_editions(rt, before, b"degree_02", 2)?;
+    all = replay_editions(rt, all, b"degree_04", 4)?;
+    all = replay_editions(rt, all, b"degree_08", 8)?;
+    all = replay_editions(rt, all, b"degree_16", 16)?;
+    all = replay_editions(rt, all, b"degree_32", 32)?;
+    replay_editions(rt, all, b"degree_64", 64)
 }
 
 // The calls that only make editions, at each degree.
-fn replay_grows(before: Score) -> Score {
-    let mut all = replay_editions(before, b"grows_02", 2);
-    all = replay_editions(all, b"grows_04", 4);
-    all = replay_editions(all, b"grows_08", 8);
-    all = replay_editions(all, b"grows_16", 16);
-    all = replay_editions(all, b"grows_32", 32);
-    replay_editions(all, b"grows_64", 64)
+fn replay_grows(rt: &impl Print, before: Score) -> io::Result<Score> {
+    let mut all = replay_editions(rt, before, b"grows_02", 2)?;
+    all = replay_editions(rt, all, b"grows_04", 4)?;
+    all = replay_editions(rt, all, b"grows_08", 8)?;
+    all = replay_editions(rt, all, b"grows_16", 16)?;
+    all = replay_editions(rt, all, b"grows_32", 32)?;
+    replay_editions(rt, all, b"grows_64", 64)
 }
 
-fn main() {
-    replay_leaves(b"leaves");
-    let degrees = replay_degrees(Score::new());
-    replay_grows(degrees).show_all();
+fn main(rt: HostRuntime) -> io::Result<()> {
+    replay_leaves(&rt, b"leaves")?;
+    let degrees = replay_degrees(&rt, Score::new())?;
+    replay_grows(&rt, degrees)?.show_all(&rt)
 }

@@ -1,6 +1,8 @@
 //! How a file of stored answers came out: how many calls and lines it has, how many of the lines are wrong, and whether the
 //! last line says the same number of calls.
 
+use std::io;
+
 #[derive(Clone, Copy)]
 pub struct Score {
     lines: u64,
@@ -68,20 +70,20 @@ impl Score {
         }
     }
 
-    pub fn show(self) {
-        print::decimal(b", calls ", self.calls);
-        print::decimal(b", lines ", self.lines);
-        print::decimal(b", wrong ", self.wrong);
+    pub fn show(self, rt: &impl Print) -> io::Result<()> {
+        print::decimal(rt, b", calls ", self.calls)?;
+        print::decimal(rt, b", lines ", self.lines)?;
+        print::decimal(rt, b", wrong ", self.wrong)?;
         if self.calls != self.total {
-            print::say(b", not whole");
+            print::say(rt, b", not whole")?;
         }
-        print::say(b"\n");
+        print::say(rt, b"\n")
     }
 
     // All files on editions.
-    pub fn show_all(self) {
-        print::decimal(b"replayed on the shelf: ", self.calls);
-        print::decimal(b" calls, ", self.wrong);
-        print::say(b" wrong\n");
+    pub fn show_all(self, rt: &impl Print) -> io::Result<()> {
+        print::decimal(rt, b"replayed on the shelf: ", self.calls)?;
+        print::decimal(rt, b" calls, ", self.wrong)?;
+        print::say(rt, b" wrong\n")
     }
 }

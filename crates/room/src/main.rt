@@ -6,7 +6,9 @@
 mod exact;
 mod refusals;
 
-fn main() {
-    exact::show();
-    refusals::show();
+use std::io;
+
+fn main(rt: HostRuntime) -> io::Result<()> {
+    exact::show(&rt)?;
+    refusals::show(&rt)
 }

@@ -3,6 +3,7 @@
 ghost use Rattle.std.specs.Prelude.{◌≤◌};
 
 use shown::{answer, entries, lent, steps};
+use std::io;
 
 // An entry that is taken out of an edition, behind so many steps of the table; and, where `longer` says so, behind an insert
 // that puts key 6 in front of the chain of K5.
@@ -47,51 +48,51 @@ fn prepare(a: &mut [u64], row: Row) {
 }
 
 // The largest arena has 53 branch cells, 8 entry cells and 8 slots.
-fn within(label: &[u8], row: Row, branches: u64, entries: u64) {
+fn within(rt: &impl Print, label: &[u8], row: Row, branches: u64, entries: u64) -> io::Result<()> {
     let mut a = [0u64; 1091];
     shelf::format(&mut a, 16, branches, entries, 8);
     prepare(&mut a, row);
     let mut copy = [0u64; 1091];
     lent::copy(&a, &mut copy);
-    print::say(label);
-    answer::say_updated(shelf::remove(&mut a, row.edition, row.hash, row.key));
-    answer::say_use(b"; in use", &a);
-    lent::say_kept(&a, &copy);
+    print::say(rt, label)?;
+    answer::say_updated(rt, shelf::remove(&mut a, row.edition, row.hash, row.key))?;
+    answer::say_use(rt, b"; in use", &a)?;
+    lent::say_kept(rt, &a, &copy)
 }
 
-fn with_these(label: &[u8], row: Row, branches: u64, entries: u64) {
-    print::say(label);
-    print::decimal(b" needs ", branches);
-    print::decimal(b" ", entries);
-    print::say(b"\n");
-    within(b"    these", row, branches, entries);
+fn with_these(rt: &impl Print, label: &[u8], row: Row, branches: u64, entries: u64) -> io::Result<()> {
+    print::say(rt, label)?;
+    print::decimal(rt, b" needs ", branches)?;
+    print::decimal(rt, b" ", entries)?;
+    print::say(rt, b"\n")?;
+    within(rt, b"    these", row, branches, entries)
 }
 
 // For a removal that takes branch cells.
-fn and_fewer(label: &[u8], row: Row, branches: u64, entries: u64)
+fn and_fewer(rt: &impl Print, label: &[u8], row: Row, branches: u64, entries: u64) -> io::Result<()>
     requires { 1 ≤ branches }
 {
-    with_these(label, row, branches, entries);
-    within(b"    a branch cell fewer", row, branches - 1, entries);
+    with_these(rt, label, row, branches, entries)?;
+    within(rt, b"    a branch cell fewer", row, branches - 1, entries)
 }
 
 // For a removal that takes cells of both kinds.
-fn and_fewer_of_both(label: &[u8], row: Row, branches: u64, entries: u64)
+fn and_fewer_of_both(rt: &impl Print, label: &[u8], row: Row, branches: u64, entries: u64) -> io::Result<()>
     requires { (1 ≤ branches) × (1 ≤ entries) }
 {
-    and_fewer(label, row, branches, entries);
-    within(b"    an entry cell fewer", row, branches, entries - 1);
-    within(b"    one of each fewer", row, branches - 1, entries - 1);
+    and_fewer(rt, label, row, branches, entries)?;
+    within(rt, b"    an entry cell fewer", row, branches, entries - 1)?;
+    within(rt, b"    one of each fewer", row, branches - 1, entries - 1)
 }
 
 // Where a removal takes none of a kind, none of the kind is free.
-pub fn show() {
-    print::say(b"Exactly the cells needed, and fewer (degree 16)\n");
-    with_these(b"  A out of K1", behind(1, 0x26, 1), 1, 1);
-    with_these(b"  K9", behind(2, 0x26, 1), 3, 2);
-    and_fewer_of_both(b"  K7", behind(5, entries::CHAIN, 4), 22, 6);
-    and_fewer(b"  K8", behind(5, entries::CHAIN, 5), 22, 5);
-    and_fewer(b"  D out of K6", behind(6, entries::CHAIN, 4), 38, 7);
-    and_fewer(b"  key 6 out of K5 and key 6", longer(6), 53, 6);
-    and_fewer_of_both(b"  D out of K5 and key 6", longer(4), 53, 8);
+pub fn show(rt: &impl Print) -> io::Result<()> {
+    print::say(rt, b"Exactly the cells needed, and fewer (degree 16)\n")?;
+    with_these(rt, b"  A out of K1", behind(1, 0x26, 1), 1, 1)?;
+    with_these(rt, b"  K9", behind(2, 0x26, 1), 3, 2)?;
+    and_fewer_of_both(rt, b"  K7", behind(5, entries::CHAIN, 4), 22, 6)?;
+    and_fewer(rt, b"  K8", behind(5, entries::CHAIN, 5), 22, 5)?;
+    and_fewer(rt, b"  D out of K6", behind(6, entries::CHAIN, 4), 38, 7)?;
+    and_fewer(rt, b"  key 6 out of K5 and key 6", longer(6), 53, 6)?;
+    and_fewer_of_both(rt, b"  D out of K5 and key 6", longer(4), 53, 8)
 }

@@ -1,78 +1,79 @@
 //! What remove refuses, in the order of the tests, and each test before a later one that would refuse too: 4 before 5, 5
 //! before 6, 6 before 7, 7 before 8 and 8 before 9. None of these changes a word.
 use shown::{answer, damaged, entries, lent, steps};
+use std::io;
 
 // The words of the arena, and so of its copy: 21 branch cells, 5 entry cells and 7 slots.
 const WORDS: usize = 462;
 
-fn remove(a: &mut [u64], label: &[u8], edition: u64, hash: u64, key: u64) {
+fn remove(rt: &impl Print, a: &mut [u64], label: &[u8], edition: u64, hash: u64, key: u64) -> io::Result<()> {
     let number = answer::of_updated(shelf::remove(a, edition, hash, key));
-    print::decimal(label, number);
+    print::decimal(rt, label, number)
 }
 
 // A slot that is free, and ones that are not there.
-fn no_such_edition(a: &mut [u64]) {
-    remove(a, b"  key 9 out of 6, not held: ", 6, 0x26, 9);
-    remove(a, b"; out of 7: ", 7, 0x26, 9);
-    remove(a, b"; out of 2^64 - 1: ", u64::MAX, 0x26, 9);
+fn no_such_edition(rt: &impl Print, a: &mut [u64]) -> io::Result<()> {
+    remove(rt, a, b"  key 9 out of 6, not held: ", 6, 0x26, 9)?;
+    remove(rt, a, b"; out of 7: ", 7, 0x26, 9)?;
+    remove(rt, a, b"; out of 2^64 - 1: ", u64::MAX, 0x26, 9)
 }
 
 // A hash that is nowhere, another key under a hash, a key under another hash; and the empty edition.
-fn absent(a: &mut [u64]) {
-    remove(a, b"  hash 27 out of 5: ", 5, 0x27, 1);
-    remove(a, b"; key 2 under A's hash: ", 5, 0x26, 2);
-    remove(a, b"; key 6 under D's hash: ", 5, entries::CHAIN, 6);
-    remove(a, b"; D's key under hash 42: ", 5, 0x42, 4);
-    remove(a, b"; A out of 0: ", 0, 0x26, 1);
+fn absent(rt: &impl Print, a: &mut [u64]) -> io::Result<()> {
+    remove(rt, a, b"  hash 27 out of 5: ", 5, 0x27, 1)?;
+    remove(rt, a, b"; key 2 under A's hash: ", 5, 0x26, 2)?;
+    remove(rt, a, b"; key 6 under D's hash: ", 5, entries::CHAIN, 6)?;
+    remove(rt, a, b"; D's key under hash 42: ", 5, 0x42, 4)?;
+    remove(rt, a, b"; A out of 0: ", 0, 0x26, 1)
 }
 
 // D needs a cell of each kind and A out of 1 needs none.
-fn no_slot(a: &mut [u64]) {
-    remove(a, b"  all slots held, D out of 5: ", 5, entries::CHAIN, 4);
-    remove(a, b"; A out of 1: ", 1, 0x26, 1);
+fn no_slot(rt: &impl Print, a: &mut [u64]) -> io::Result<()> {
+    remove(rt, a, b"  all slots held, D out of 5: ", 5, entries::CHAIN, 4)?;
+    remove(rt, a, b"; A out of 1: ", 1, 0x26, 1)
 }
 
-fn with_a_slot(a: &mut [u64]) {
+fn with_a_slot(rt: &impl Print, a: &mut [u64]) -> io::Result<()> {
     let mut copy = [0u64; WORDS];
     lent::copy(a, &mut copy);
-    damaged::say(a);
-    lent::say_kept(a, &copy);
-    no_such_edition(a);
-    lent::say_kept(a, &copy);
+    damaged::say(rt, a)?;
+    lent::say_kept(rt, a, &copy)?;
+    no_such_edition(rt, a)?;
+    lent::say_kept(rt, a, &copy)
 }
 
-fn without_a_slot(a: &mut [u64]) {
-    answer::say_made(b"  a share takes the last slot:", shelf::share(a, 5));
-    print::say(b"\n");
+fn without_a_slot(rt: &impl Print, a: &mut [u64]) -> io::Result<()> {
+    answer::say_made(rt, b"  a share takes the last slot:", shelf::share(a, 5))?;
+    print::say(rt, b"\n")?;
     let mut copy = [0u64; WORDS];
     lent::copy(a, &mut copy);
-    absent(a);
-    lent::say_kept(a, &copy);
-    no_slot(a);
-    lent::say_kept(a, &copy);
+    absent(rt, a)?;
+    lent::say_kept(rt, a, &copy)?;
+    no_slot(rt, a)?;
+    lent::say_kept(rt, a, &copy)
 }
 
 // Once an edition is dropped, D out of K5 is refused for another reason.
-fn dropped(a: &mut [u64], label: &[u8], edition: u64) {
-    print::say(label);
-    answer::say_dropped(shelf::drop(a, edition));
+fn dropped(rt: &impl Print, a: &mut [u64], label: &[u8], edition: u64) -> io::Result<()> {
+    print::say(rt, label)?;
+    answer::say_dropped(rt, shelf::drop(a, edition))?;
     let mut copy = [0u64; WORDS];
     lent::copy(a, &mut copy);
-    remove(a, b"; D out of 5: ", 5, entries::CHAIN, 4);
-    lent::say_kept(a, &copy);
+    remove(rt, a, b"; D out of 5: ", 5, entries::CHAIN, 4)?;
+    lent::say_kept(rt, a, &copy)
 }
 
 // The share has no cell of its own; K1 has its root.
-pub fn show() {
-    print::say(b"Refusals (degree 16, K1 to K5, all 21 and 5 cells in use, 7 slots)\n");
+pub fn show(rt: &impl Print) -> io::Result<()> {
+    print::say(rt, b"Refusals (degree 16, K1 to K5, all 21 and 5 cells in use, 7 slots)\n")?;
     let mut a = [0u64; WORDS];
     shelf::format(&mut a, 16, 21, 5, 7);
     steps::before(&mut a, 6);
-    with_a_slot(&mut a);
-    without_a_slot(&mut a);
-    dropped(&mut a, b"  the share dropped:", 6);
-    dropped(&mut a, b"  K1 dropped:", 1);
-    print::say(b"  E out of 5");
-    answer::say_updated(shelf::remove(&mut a, 5, entries::CHAIN, 5));
-    print::say(b"\n");
+    with_a_slot(rt, &mut a)?;
+    without_a_slot(rt, &mut a)?;
+    dropped(rt, &mut a, b"  the share dropped:", 6)?;
+    dropped(rt, &mut a, b"  K1 dropped:", 1)?;
+    print::say(rt, b"  E out of 5")?;
+    answer::say_updated(rt, shelf::remove(&mut a, 5, entries::CHAIN, 5))?;
+    print::say(rt, b"\n")
 }

@@ -1,5 +1,6 @@
 //! An answer as document 01's number, 0 where the call is done; or as text, its values or "no." with the number.
 use shelf::{Compared, Counted, Dropped, Formatted, InUse, Made, Updated};
+use std::io;
 
 pub fn of_format(answer: Formatted) -> u64 {
     match answer {
@@ -64,18 +65,18 @@ pub fn count_4(n: u64, number: u64) -> u64 {
 }
 
 // Which slot an edition was put in.
-pub fn say_made(label: &[u8], answer: Made) {
-    print::say(label);
+pub fn say_made(rt: &impl Print, label: &[u8], answer: Made) -> io::Result<()> {
+    print::say(rt, label)?;
     match answer {
-        Made::Edition(slot) => print::decimal(b" slot ", slot),
-        Made::Refused(why) => print::decimal(b" no. ", why.number()),
+        Made::Edition(slot) => print::decimal(rt, b" slot ", slot),
+        Made::Refused(why) => print::decimal(rt, b" no. ", why.number()),
     }
 }
 
-pub fn say_counted(answer: Counted) {
+pub fn say_counted(rt: &impl Print, answer: Counted) -> io::Result<()> {
     match answer {
-        Counted::Entries(n) => print::decimal(b" ", n),
-        Counted::Refused(why) => print::decimal(b" no. ", why.number()),
+        Counted::Entries(n) => print::decimal(rt, b" ", n),
+        Counted::Refused(why) => print::decimal(rt, b" no. ", why.number()),
     }
 }
 
@@ -88,53 +89,53 @@ pub fn entries(answer: Counted) -> u64 {
 }
 
 // The branch cells and the entry cells in use.
-pub fn say_use(label: &[u8], a: &[u64]) {
-    print::say(label);
+pub fn say_use(rt: &impl Print, label: &[u8], a: &[u64]) -> io::Result<()> {
+    print::say(rt, label)?;
     match shelf::in_use(a) {
         InUse::Cells { branches, entries } => {
-            print::decimal(b" ", branches);
-            print::decimal(b" ", entries);
+            print::decimal(rt, b" ", branches)?;
+            print::decimal(rt, b" ", entries)
         }
-        InUse::Refused(why) => print::decimal(b" no. ", why.number()),
+        InUse::Refused(why) => print::decimal(rt, b" no. ", why.number()),
     }
 }
 
 // The edition that an update made and the cells that it took.
-pub fn say_updated(answer: Updated) {
+pub fn say_updated(rt: &impl Print, answer: Updated) -> io::Result<()> {
     match answer {
         Updated::Edition {
             edition,
             branches,
             entries,
         } => {
-            print::decimal(b": edition ", edition);
-            print::decimal(b" takes ", branches);
-            print::decimal(b" ", entries);
+            print::decimal(rt, b": edition ", edition)?;
+            print::decimal(rt, b" takes ", branches)?;
+            print::decimal(rt, b" ", entries)
         }
-        Updated::Refused(why) => print::decimal(b": no. ", why.number()),
+        Updated::Refused(why) => print::decimal(rt, b": no. ", why.number()),
     }
 }
 
 // The cells that a drop freed.
-pub fn say_dropped(answer: Dropped) {
+pub fn say_dropped(rt: &impl Print, answer: Dropped) -> io::Result<()> {
     match answer {
         Dropped::Freed { branches, entries } => {
-            print::decimal(b" frees ", branches);
-            print::decimal(b" ", entries);
+            print::decimal(rt, b" frees ", branches)?;
+            print::decimal(rt, b" ", entries)
         }
-        Dropped::Refused(why) => print::decimal(b" no. ", why.number()),
+        Dropped::Refused(why) => print::decimal(rt, b" no. ", why.number()),
     }
 }
 
 // Whether two editions have the same entries.
-pub fn say_compared(a: &[u64], label: &[u8], first: u64, second: u64) {
-    print::say(label);
+pub fn say_compared(rt: &impl Print, a: &[u64], label: &[u8], first: u64, second: u64) -> io::Result<()> {
+    print::say(rt, label)?;
     match shelf::equal(a, first, second) {
-        Compared::Equal => print::say(b" equal\n"),
-        Compared::Different => print::say(b" different\n"),
+        Compared::Equal => print::say(rt, b" equal\n"),
+        Compared::Different => print::say(rt, b" different\n"),
         Compared::Refused(why) => {
-            print::decimal(b" no. ", why.number());
-            print::say(b"\n");
+            print::decimal(rt, b" no. ", why.number())?;
+            print::say(rt, b"\n")
         }
     }
 }

@@ -1,6 +1,7 @@
 //! Updates and drops on an arena with a wrong header, and on one that is cut short: each answers 4. They have another fault
 //! too, no such edition, but 4 comes first.
 use crate::{answer, lent};
+use std::io;
 
 // One more for each of the four calls that answers 4.
 fn fours_of(a: &mut [u64], fours: u64) -> u64 {
@@ -49,8 +50,8 @@ fn cut(a: &mut [u64]) -> u64 {
 }
 
 // The slice has just the words of the arena.
-pub fn say(a: &mut [u64]) {
-    print::decimal(b"  words 0 to 7 wrong: 4 from ", wrong_words(a));
-    print::decimal(b" of 32 calls; cut short: 4 from ", cut(a));
-    print::say(b" of 12 calls");
+pub fn say(rt: &impl Print, a: &mut [u64]) -> io::Result<()> {
+    print::decimal(rt, b"  words 0 to 7 wrong: 4 from ", wrong_words(a))?;
+    print::decimal(rt, b" of 32 calls; cut short: 4 from ", cut(a))?;
+    print::say(rt, b" of 12 calls")
 }

@@ -1,6 +1,8 @@
 //! The words of an arena: read, set, printed, copied, and compared with a copy.
 ghost use Rattle.std.specs.Prelude.{◌≤◌, length};
 
+use std::io;
+
 // A word; 0 where there is none.
 pub fn word(words: &[u64], at: usize) -> u64 {
     if at < words.len() { words[at] } else { 0 }
@@ -12,21 +14,21 @@ pub fn put(words: &mut [u64], at: usize, word: u64) {
     }
 }
 
-fn say(label: &[u8], words: &[u64]) {
-    print::say(label);
+fn say(rt: &impl Print, label: &[u8], words: &[u64]) -> io::Result<()> {
+    print::say(rt, label)?;
     let mut i = 0;
     while i < words.len() {
-        print::decimal(b" ", words[i]);
+        print::decimal(rt, b" ", words[i])?;
         i += 1;
     }
-    print::say(b"\n");
+    print::say(rt, b"\n")
 }
 
 // The words from a place on and before another.
-pub fn say_part(label: &[u8], words: &[u64], from: usize, end: usize)
+pub fn say_part(rt: &impl Print, label: &[u8], words: &[u64], from: usize, end: usize) -> io::Result<()>
     requires { (from ≤ end) × (end ≤ length words.now) }
 {
-    say(label, &words[from..end]);
+    say(rt, label, &words[from..end])
 }
 
 // As many of the words as there is room for.
@@ -57,10 +59,10 @@ pub fn is_same(words: &[u64], before: &[u64]) -> bool {
 }
 
 // Whether a call left every word as it was.
-pub fn say_kept(words: &[u64], before: &[u64]) {
+pub fn say_kept(rt: &impl Print, words: &[u64], before: &[u64]) -> io::Result<()> {
     if is_same(words, before) {
-        print::say(b"; no word changed\n");
+        print::say(rt, b"; no word changed\n")
     } else {
-        print::say(b"; words changed\n");
+        print::say(rt, b"; words changed\n")
     }
 }

@@ -3,48 +3,49 @@
 use crate::steps;
 use shown::entries::Entry;
 use shown::{answer, entries, listed};
+use std::io;
 
-fn change(a: &mut [u64], label: &[u8], e: Entry) {
-    print::say(label);
-    answer::say_updated(shelf::change(a, 5, e.hash, e.key, e.value));
-    answer::say_use(b"; in use", a);
-    print::say(b"\n");
+fn change(rt: &impl Print, a: &mut [u64], label: &[u8], e: Entry) -> io::Result<()> {
+    print::say(rt, label)?;
+    answer::say_updated(rt, shelf::change(a, 5, e.hash, e.key, e.value))?;
+    answer::say_use(rt, b"; in use", a)?;
+    print::say(rt, b"\n")
 }
 
-fn absent(a: &mut [u64]) {
-    change(a, b"  key 6", entries::an_entry(0x7000000000000008, 6, 60));
-    change(
+fn absent(rt: &impl Print, a: &mut [u64]) -> io::Result<()> {
+    change(rt, a, b"  key 6", entries::an_entry(0x7000000000000008, 6, 60))?;
+    change(rt, 
         a,
         b"  D's key under hash 42",
         entries::an_entry(0x42, 4, 40),
-    );
-    change(
+    )?;
+    change(rt, 
         a,
         b"  D's hash with A's key",
         entries::an_entry(0x7000000000000008, 1, 1),
-    );
+    )
 }
 
-fn present(a: &mut [u64]) {
-    change(a, b"  D to 41", entries::of_step(6));
-    change(a, b"  E to 50 again", entries::of_step(5));
-    change(a, b"  C to 33", entries::an_entry(0x42, 3, 33));
-    steps::insert(a, b"  A with 10 again, inserted", 5, entries::of_step(1), 0);
+fn present(rt: &impl Print, a: &mut [u64]) -> io::Result<()> {
+    change(rt, a, b"  D to 41", entries::of_step(6))?;
+    change(rt, a, b"  E to 50 again", entries::of_step(5))?;
+    change(rt, a, b"  C to 33", entries::an_entry(0x42, 3, 33))?;
+    steps::insert(rt, a, b"  A with 10 again, inserted", 5, entries::of_step(1), 0)
 }
 
-fn compare_all(a: &[u64]) {
-    answer::say_compared(a, b"  K6 and D to 41:", 6, 9);
-    answer::say_compared(a, b"  K5 and D to 41:", 5, 9);
-    answer::say_compared(a, b"  K5 and E to 50 again:", 5, 10);
-    answer::say_compared(a, b"  K5 and C to 33:", 5, 11);
-    answer::say_compared(a, b"  K5 and A with 10 again:", 5, 12);
+fn compare_all(rt: &impl Print, a: &[u64]) -> io::Result<()> {
+    answer::say_compared(rt, a, b"  K6 and D to 41:", 6, 9)?;
+    answer::say_compared(rt, a, b"  K5 and D to 41:", 5, 9)?;
+    answer::say_compared(rt, a, b"  K5 and E to 50 again:", 5, 10)?;
+    answer::say_compared(rt, a, b"  K5 and C to 33:", 5, 11)?;
+    answer::say_compared(rt, a, b"  K5 and A with 10 again:", 5, 12)
 }
 
-pub fn show(a: &mut [u64]) {
-    print::say(b"Changes of K5\n");
-    absent(a);
-    present(a);
-    compare_all(a);
-    listed::first(a, 14);
-    steps::say_counts(a);
+pub fn show(rt: &impl Print, a: &mut [u64]) -> io::Result<()> {
+    print::say(rt, b"Changes of K5\n")?;
+    absent(rt, a)?;
+    present(rt, a)?;
+    compare_all(rt, a)?;
+    listed::first(rt, a, 14)?;
+    steps::say_counts(rt, a)
 }

@@ -2,28 +2,29 @@
 //! second insert makes a branch at each depth. The arena has exactly the cells needed.
 use crate::steps;
 use shown::entries;
+use std::io;
 
-fn at_degree(degree: u64, branches: u64) {
-    print::decimal(b"Hash 0, then 2^63 (degree ", degree);
-    print::say(b")\n");
+fn at_degree(rt: &impl Print, degree: u64, branches: u64) -> io::Result<()> {
+    print::decimal(rt, b"Hash 0, then 2^63 (degree ", degree)?;
+    print::say(rt, b")\n")?;
     let mut a = [0u64; 837];
     shelf::format(&mut a, degree, branches, 2, 3);
     shelf::new_edition(&mut a);
-    steps::insert(&mut a, b"  hash 0 into 0", 0, entries::an_entry(0, 1, 1), 2);
-    steps::insert(
+    steps::insert(rt, &mut a, b"  hash 0 into 0", 0, entries::an_entry(0, 1, 1), 2)?;
+    steps::insert(rt, 
         &mut a,
         b"  hash 2^63 into 1",
         1,
         entries::an_entry(0x8000000000000000, 1, 2),
         3,
-    );
+    )
 }
 
-pub fn show() {
-    at_degree(2, 65);
-    at_degree(4, 33);
-    at_degree(8, 23);
-    at_degree(16, 17);
-    at_degree(32, 14);
-    at_degree(64, 12);
+pub fn show(rt: &impl Print) -> io::Result<()> {
+    at_degree(rt, 2, 65)?;
+    at_degree(rt, 4, 33)?;
+    at_degree(rt, 8, 23)?;
+    at_degree(rt, 16, 17)?;
+    at_degree(rt, 32, 14)?;
+    at_degree(rt, 64, 12)
 }

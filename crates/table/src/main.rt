@@ -8,9 +8,11 @@ mod far;
 mod names;
 mod steps;
 
-fn main() {
+use std::io;
+
+fn main(rt: HostRuntime) -> io::Result<()> {
     let mut a = [0u64; 2240];
-    steps::show(&mut a);
-    changes::show(&mut a);
-    far::show();
+    steps::show(&rt, &mut a)?;
+    changes::show(&rt, &mut a)?;
+    far::show(&rt)
 }

@@ -3,6 +3,7 @@
 ghost use Rattle.std.specs.Prelude.{◌≤◌};
 
 use shown::{answer, lent};
+use std::io;
 
 // How many of the cells from a word on, up to another, are named so often.
 fn named(a: &[u64], from: usize, end: usize, width: usize, times: u64) -> u64
@@ -20,28 +21,29 @@ fn named(a: &[u64], from: usize, end: usize, width: usize, times: u64) -> u64
 }
 
 // The cells that are named 0 to 13 times.
-fn say_kind(a: &[u64], label: &[u8], from: usize, end: usize, width: usize)
+fn say_kind(rt: &impl Print, a: &[u64], label: &[u8], from: usize, end: usize, width: usize) -> io::Result<()>
     requires { (1 ≤ width) × (width ≤ 19) × (end ≤ 8192) }
 {
-    print::say(label);
+    print::say(rt, label)?;
     let mut times = 0;
     while times < 14 {
-        print::decimal(b" ", named(a, from, end, width, times));
+        print::decimal(rt, b" ", named(a, from, end, width, times))?;
         times += 1;
     }
+Ok(())
 }
 
 // The branch cells lie from a word on and the entry cells from another, up to the end of the arena.
-pub fn say(a: &[u64], branches: usize, entries: usize, end: usize)
+pub fn say(rt: &impl Print, a: &[u64], branches: usize, entries: usize, end: usize) -> io::Result<()>
     requires { (entries ≤ 8192) × (end ≤ 8192) }
 {
-    say_kind(
+    say_kind(rt, 
         a,
         b"  named 0 to 13 times: branch cells",
         branches,
         entries,
         19,
-    );
-    say_kind(a, b"; entry cells", entries, end, 6);
-    print::say(b"\n");
+    )?;
+    say_kind(rt, a, b"; entry cells", entries, end, 6)?;
+    print::say(rt, b"\n")
 }

@@ -1,30 +1,31 @@
 //! The six rows of the table, and some degrees that are not in it.
 use segments::DegreeRow;
+use std::io;
 
-fn row(degree: u64) {
-    print::decimal(b"  degree ", degree);
+fn row(rt: &impl Print, degree: u64) -> io::Result<()> {
+    print::decimal(rt, b"  degree ", degree)?;
     match segments::degree_row(degree) {
         DegreeRow::Found { bits, depths, last } => {
-            print::decimal(b": bits ", bits);
-            print::decimal(b", depths ", depths);
-            print::decimal(b", bits at the last depth ", last);
+            print::decimal(rt, b": bits ", bits)?;
+            print::decimal(rt, b", depths ", depths)?;
+            print::decimal(rt, b", bits at the last depth ", last)?;
         }
-        DegreeRow::NotInTable => print::say(b": refused"),
+        DegreeRow::NotInTable => print::say(rt, b": refused")?,
     }
-    print::say(b"\n");
+    print::say(rt, b"\n")
 }
 
-pub fn show() {
-    print::say(b"Degrees\n");
-    row(2);
-    row(4);
-    row(8);
-    row(16);
-    row(32);
-    row(64);
-    row(0);
-    row(1);
-    row(3);
-    row(65);
-    row(128);
+pub fn show(rt: &impl Print) -> io::Result<()> {
+    print::say(rt, b"Degrees\n")?;
+    row(rt, 2)?;
+    row(rt, 4)?;
+    row(rt, 8)?;
+    row(rt, 16)?;
+    row(rt, 32)?;
+    row(rt, 64)?;
+    row(rt, 0)?;
+    row(rt, 1)?;
+    row(rt, 3)?;
+    row(rt, 65)?;
+    row(rt, 128)
 }

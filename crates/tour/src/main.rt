@@ -8,9 +8,11 @@ mod degrees;
 mod paths;
 mod sparse;
 
-fn main() {
-    degrees::show();
-    paths::show();
-    classes::show();
-    sparse::show();
+use std::io;
+
+fn main(rt: HostRuntime) -> io::Result<()> {
+    degrees::show(&rt)?;
+    paths::show(&rt)?;
+    classes::show(&rt)?;
+    sparse::show(&rt)
 }

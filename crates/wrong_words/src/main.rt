@@ -4,6 +4,8 @@
 #![tactic(auto)]
 mod unsound;
 
-fn main() {
-    unsound::show();
+use std::io;
+
+fn main(rt: HostRuntime) -> io::Result<()> {
+    unsound::show(&rt)
 }

@@ -3,6 +3,7 @@
 ghost use Rattle.std.specs.Prelude.{◌≤◌};
 
 use shown::{answer, lent, steps};
+use std::io;
 
 // The arena has 24 branch cells of 19 words from word 33 on, 7 entry cells of 6 words from word 489 on, and 7 slots: 531
 // words. Behind it are nine that are not its own.
@@ -75,124 +76,126 @@ fn is_kept(a: &[u64], copy: &[u64], from: usize, end: usize) -> bool {
     true
 }
 
-fn let_go(a: &mut [u64], edition: u64) {
-    print::decimal(b" ", answer::of_dropped(shelf::drop(a, edition)));
+fn let_go(rt: &impl Print, a: &mut [u64], edition: u64) -> io::Result<()> {
+    print::decimal(rt, b" ", answer::of_dropped(shelf::drop(a, edition)))
 }
 
 // K5 is dropped, and then all the others.
-fn tried(a: &mut [u64], label: &[u8]) {
+fn tried(rt: &impl Print, a: &mut [u64], label: &[u8]) -> io::Result<()> {
     let mut copy = [0u64; WORDS];
     lent::copy(a, &mut copy);
-    print::say(label);
-    let_go(a, 5);
-    let_go(a, 4);
-    let_go(a, 3);
-    let_go(a, 2);
-    let_go(a, 1);
-    let_go(a, 0);
+    print::say(rt, label)?;
+    let_go(rt, a, 5)?;
+    let_go(rt, a, 4)?;
+    let_go(rt, a, 3)?;
+    let_go(rt, a, 2)?;
+    let_go(rt, a, 1)?;
+    let_go(rt, a, 0)?;
     if is_kept(a, &copy, 0, 8) && is_kept(a, &copy, TOTAL, WORDS) {
-        print::say(b"; words 0 to 7 and beyond the arena as before\n");
+        print::say(rt, b"; words 0 to 7 and beyond the arena as before\n")
     } else {
-        print::say(b"; WORDS CHANGED\n");
+        print::say(rt, b"; WORDS CHANGED\n")
     }
 }
 
 // Another word at a place of a cell of K1 to K5.
-fn with(a: &mut [u64], label: &[u8], r: u64, k: usize, word: u64)
+fn with(rt: &impl Print, a: &mut [u64], label: &[u8], r: u64, k: usize, word: u64) -> io::Result<()>
     requires { k ≤ 19 }
 {
     put(a, r, k, word);
-    tried(a, label);
+    tried(rt, a, label)?;
     begin(a);
+Ok(())
 }
 
 // A branch has its children from the fourth word on: those of K5's root are C, the branch of A and B, and the path of D and E.
-fn children(a: &mut [u64]) {
+fn children(rt: &impl Print, a: &mut [u64]) -> io::Result<()> {
     let r = root(a);
     let path = get(a, r, 5);
     let below = get(a, path, 3);
     let free = lent::word(a, 8);
-    with(a, b"  a child of K5's root names the root:", r, 3, r);
-    with(a, b"  two branches name each other:", below, 3, path);
-    with(a, b"  a child names a free cell:", r, 3, free);
-    with(a, b"  a child names no cell:", r, 3, 1000);
-    with(a, b"  a child is the largest number:", r, 4, u64::MAX);
-    with(a, b"  a child is missing:", r, 3, 0);
+    with(rt, a, b"  a child of K5's root names the root:", r, 3, r)?;
+    with(rt, a, b"  two branches name each other:", below, 3, path)?;
+    with(rt, a, b"  a child names a free cell:", r, 3, free)?;
+    with(rt, a, b"  a child names no cell:", r, 3, 1000)?;
+    with(rt, a, b"  a child is the largest number:", r, 4, u64::MAX)?;
+    with(rt, a, b"  a child is missing:", r, 3, 0)
 }
 
 // E stands before D in the chain; the third word is the next.
-fn chain(a: &mut [u64]) {
+fn chain(rt: &impl Print, a: &mut [u64]) -> io::Result<()> {
     let front = entry(a, 5);
     let end = entry(a, 4);
     let free = lent::word(a, 9);
     let r = root(a);
-    with(a, b"  E's next is E:", front, 2, front);
-    with(a, b"  D's next is E:", end, 2, front);
-    with(a, b"  D's next is a free cell:", end, 2, free);
-    with(a, b"  D's next is K5's root:", end, 2, r);
+    with(rt, a, b"  E's next is E:", front, 2, front)?;
+    with(rt, a, b"  D's next is E:", end, 2, front)?;
+    with(rt, a, b"  D's next is a free cell:", end, 2, free)?;
+    with(rt, a, b"  D's next is K5's root:", end, 2, r)
 }
 
 // The first word is the count.
-fn counted(a: &mut [u64]) {
+fn counted(rt: &impl Print, a: &mut [u64]) -> io::Result<()> {
     let r = root(a);
     let b = entry(a, 2);
     let c = entry(a, 3);
     let path = get(a, r, 5);
-    with(a, b"  the count of K5's root is 0:", r, 0, 0);
-    with(a, b"  the count of K5's root is too large:", r, 0, 9);
-    with(
+    with(rt, a, b"  the count of K5's root is 0:", r, 0, 0)?;
+    with(rt, a, b"  the count of K5's root is too large:", r, 0, 9)?;
+    with(rt, 
         a,
         b"  the count of the path of D and E is the largest number:",
         path,
         0,
         u64::MAX,
-    );
-    with(a, b"  the count of B is 0:", b, 0, 0);
-    with(
+    )?;
+    with(rt, a, b"  the count of B is 0:", b, 0, 0)?;
+    with(rt, 
         a,
         b"  the count of C is 1 though three roots name it:",
         c,
         0,
         1,
-    );
+    )
 }
 
 // The second word of a branch is its depth, the third its bitmap.
-fn others(a: &mut [u64]) {
+fn others(rt: &impl Print, a: &mut [u64]) -> io::Result<()> {
     let r = root(a);
     let path = get(a, r, 5);
-    with(a, b"  the depth of K5's root is 1:", r, 1, 1);
-    with(a, b"  the depth of the path of D and E is 0:", path, 1, 0);
-    with(a, b"  the bitmap of K5's root is 0:", r, 2, 0);
+    with(rt, a, b"  the depth of K5's root is 1:", r, 1, 1)?;
+    with(rt, a, b"  the depth of the path of D and E is 0:", path, 1, 0)?;
+    with(rt, a, b"  the bitmap of K5's root is 0:", r, 2, 0)
 }
 
 // Both words of the header from a place on.
-fn header(a: &mut [u64], label: &[u8], at: usize, word: u64)
+fn header(rt: &impl Print, a: &mut [u64], label: &[u8], at: usize, word: u64) -> io::Result<()>
     requires { at ≤ 10 }
 {
     lent::put(a, at, word);
     lent::put(a, at + 1, word);
-    tried(a, label);
+    tried(rt, a, label)?;
     begin(a);
+Ok(())
 }
 
-pub fn show() {
-    print::say(b"Wrong words behind a right header (degree 16): K5 and then all others dropped\n");
+pub fn show(rt: &impl Print) -> io::Result<()> {
+    print::say(rt, b"Wrong words behind a right header (degree 16): K5 and then all others dropped\n")?;
     let mut a = [7u64; WORDS];
     begin(&mut a);
-    tried(&mut a, b"  none:");
+    tried(rt, &mut a, b"  none:")?;
     begin(&mut a);
-    children(&mut a);
-    chain(&mut a);
-    counted(&mut a);
-    others(&mut a);
-    header(&mut a, b"  words 8 and 9 name no cell:", 8, 999);
-    header(&mut a, b"  words 8 and 9 are 0:", 8, 0);
-    header(&mut a, b"  words 10 and 11 are 0:", 10, 0);
-    header(
+    children(rt, &mut a)?;
+    chain(rt, &mut a)?;
+    counted(rt, &mut a)?;
+    others(rt, &mut a)?;
+    header(rt, &mut a, b"  words 8 and 9 name no cell:", 8, 999)?;
+    header(rt, &mut a, b"  words 8 and 9 are 0:", 8, 0)?;
+    header(rt, &mut a, b"  words 10 and 11 are 0:", 10, 0)?;
+    header(rt, 
         &mut a,
         b"  words 10 and 11 are the largest number:",
         10,
         u64::MAX,
-    );
+    )
 }

@@ -1,0 +1,10 @@
+-- `answers::find` meets its contract: the search of the part behind `from` answers the newline's place in it.
+use Rattle.std.proofs.Common.{◌∙◌, sym}
+use Rattle.answers.proofs.ReadLaws.{newline_found, newline_missing}
+use Rattle.answers.proofs.find.Goals as goal
+
+pub returns-in-Some-clause-answers : goal.returns-in-Some-clause-answers
+returns-in-Some-clause-answers c = newline_found _ _ _ (sym c.newline.ensures ∙ c.in-Some.is)
+
+pub returns-in-None-clause-answers : goal.returns-in-None-clause-answers
+returns-in-None-clause-answers c = newline_missing _ _ c.requires (sym c.newline.ensures ∙ c.in-None.is)

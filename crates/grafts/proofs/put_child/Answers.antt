@@ -1,0 +1,49 @@
+-- `grafts::put_child` meets its contract: the row without the new child is shared as far as it is filled, and with the child fills
+-- the new branch. Assumes nothing.
+use mathlib.Core.Path.{◌∙◌}
+use lib.ListN.{length-set}
+use Rattle.segments.proofs.TableLaws.{below_depths}
+use Rattle.sparse_array.proofs.Bitmap.{below_le}
+use Rattle.layout.proofs.SizeLaws.{small, row_is_Right}
+use Rattle.lookup.proofs.Meaning.{segment_low}
+use Rattle.cells.proofs.KeptLaws.{lent_same}
+use Rattle.grafts.proofs.StepLaws.{place_low, gap_few, share_up_to, put_is}
+use Rattle.grafts.proofs.LoadLaws.{zeros_Blank}
+use native.Mathlib.Omega.{arith}
+use Rattle.grafts.proofs.put_child.Goals as goal
+
+pub segment_at-segment-requires : goal.segment_at-segment-requires
+segment_at-segment-requires c = ((below_depths _ (row_is_Right _ c.requires.lent.allowed) _).0 c.requires.in_depths, (row_is_Right _ c.requires.lent.allowed).few_bits)
+
+pub gap-gap-requires : goal.gap-gap-requires
+gap-gap-requires c = rw c.segment_at-segment.ensures (segment_low _ c.requires.lent.allowed _ _)
+
+pub load-requires : goal.load-requires
+load-requires c =
+    record { lent = (c.requires.lent, zeros_Blank); gap_in_row = (place_low _ _ _ _ _ _ c.requires.lent.allowed c.segment_at-segment.ensures c.rank-at.ensures, gap_few _ _ _ c.gap-gap.ensures) }
+
+pub overflow_add-size : goal.overflow_add-size
+overflow_add-size c = omega (arith, c.size.ensures, below_le c.bits-bits.result 64, gap_few _ _ _ c.gap-gap.ensures)
+
+pub offset_bounds-row-at : goal.offset_bounds-row-at
+offset_bounds-row-at c = omega (arith, place_low _ _ _ _ _ _ c.requires.lent.allowed c.segment_at-segment.ensures c.rank-at.ensures, (small _ c.requires.lent.allowed).degree_high)
+
+pub bounds-row-at : goal.bounds-row-at
+bounds-row-at c = omega (arith, place_low _ _ _ _ _ _ c.requires.lent.allowed c.segment_at-segment.ensures c.rank-at.ensures, (small _ c.requires.lent.allowed).degree_high)
+
+pub with-requires : goal.with-requires
+with-requires c = (rw c.segment_at-segment.ensures (segment_low _ c.requires.lent.allowed _ _), c.gap-gap.ensures)
+
+pub new_branch-requires : goal.new_branch-requires
+new_branch-requires c =
+    record { lent = lent_same (omega (arith, c.share_row.auto.a)) c.requires.lent; row_len = simp length-set (omega (arith, c.load.auto.row)) }
+
+pub returns : goal.returns
+returns c =
+    put_is _ _ _ _ _ _ _ _ _ _ _ c.load.new.row _ _ _
+    c.segment_at-segment.ensures c.bits-bits.ensures c.gap-gap.ensures c.rank-at.ensures
+    c.with.ensures
+    (omega (arith, c.load.auto.row, place_low _ _ _ _ _ _ c.requires.lent.allowed c.segment_at-segment.ensures c.rank-at.ensures, (small _ c.requires.lent.allowed).degree_high))
+    c.load.ensures
+    (c.share_row.ensures ∙ share_up_to _ _ _ _ _ c.filled-n.ensures.0 c.filled-n.ensures.1)
+    c.new_branch.ensures

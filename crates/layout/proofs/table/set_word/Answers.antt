@@ -1,0 +1,13 @@
+-- `layout::table::set_word` meets its contract: a word of a cell lies inside the slice. Assumes nothing.
+use native.Mathlib.Omega.{arith}
+use Rattle.layout.proofs.OffsetLaws.{word_Lent}
+use Rattle.layout.proofs.table.set_word.Goals as goal
+
+pub offset_bounds-a-i : goal.offset_bounds-a-i
+offset_bounds-a-i c = omega (arith, word_Lent _ _ _ _ _ c.requires.lent.0 c.requires.has_word c.word_at-i.ensures)
+
+pub bounds-a-i : goal.bounds-a-i
+bounds-a-i c = omega (arith, word_Lent _ _ _ _ _ c.requires.lent.0 c.requires.has_word c.word_at-i.ensures)
+
+pub returns : goal.returns
+returns c = rw c.word_at-i.ensures
