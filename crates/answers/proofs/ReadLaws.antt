@@ -10,12 +10,11 @@ use lib.ListN.{length, get_or, take, drop, drop_of_length-le}
 use lib.Seq.{drop-cons}
 use borrow.Author.Tests.{eq-eqb, ne_eqb}
 use Rattle.std.specs.Prelude.{◌==◌, Some, None, not}
-use Rattle.std.specs.List.{position}
 use Rattle.std.proofs.lemmas.List.{length-drop}
 use Rattle.std.proofs.lemmas.List.Sums.{prefix_len-le-length}
 use Rattle.answers.specs.declared.Line.{Line}
 use Rattle.answers.specs.declared.Numbers.{Numbers}
-use Rattle.answers.specs.Lines.{closed_of, next_of, read_of, start, bare_of, made_of, behind_of, newline_from, line_to, line_at}
+use Rattle.answers.specs.Lines.{closed_of, next_of, read_of, start, bare_of, made_of, behind_of, newline_of, newline_from, line_to, line_at}
 
 pub read_more : (s : Numbers) (bytes : List ℕ) (i : ℕ) → i < length bytes
     → read_of (next_of s (get_or bytes i 0)) (drop (i + 1) bytes) ≡ read_of s (drop i bytes)
@@ -53,10 +52,10 @@ line_made text at end next s r e n m q =
     q ∙ ap₂ (made_of (get_or text at 0)) n m ∙ ap (line_to text at) e
 
 -- THE NEWLINE, where the search found one and where it found none
-pub newline_found : (text : List ℕ) (from at : ℕ) → position (λ b. b == 10) (drop from text) ≡ Some at
+pub newline_found : (text : List ℕ) (from at : ℕ) → newline_of (drop from text) ≡ Some at
     → from + at ≡ newline_from text from
 newline_found text from at e = grind (arith, e)
 
-pub newline_missing : (text : List ℕ) (from : ℕ) → from ≤ length text → position (λ b. b == 10) (drop from text) ≡ None
+pub newline_missing : (text : List ℕ) (from : ℕ) → from ≤ length text → newline_of (drop from text) ≡ None
     → length text ≡ newline_from text from
 newline_missing text from h e = grind (arith, e, length-drop from text, prefix_len-le-length (λ b. not (b == 10)) (drop from text))

@@ -1,7 +1,7 @@
 -- A line of the stored answers: a letter, then numbers. oracle/README.md says how it is written; this is how it is read, byte
 -- by byte. It takes more than is written: spaces and signs '=' may stand in any number between the numbers.
-use Rattle.std.specs.Prelude.{Bool, true, false, cond, List, [], ◌∷◌, ℕ, ◌+◌, ◌*◌, ◌-◌, ◌^◌, ◌==◌, eqb, ltb, leb, length, get_or, set, take, drop}
-use Rattle.std.specs.List.{position_or_len}
+use Rattle.std.specs.Prelude.{Option, Bool, true, false, cond, List, [], ◌∷◌, ℕ, ◌+◌, ◌*◌, ◌-◌, ◌^◌, ◌==◌, eqb, ltb, leb, length, get_or, set, take, drop}
+use Rattle.std.specs.List.{position, position_or_len}
 use Rattle.answers.specs.declared.Line.{Line}
 use Rattle.answers.specs.declared.Numbers.{Numbers}
 
@@ -64,6 +64,10 @@ behind_of text end = cond (ltb end (length text)) (end + 1) end
 unfoldable pub line_to : List ℕ → ℕ → ℕ → Line
 line_to text at end =
     made_of (get_or text at 0) (behind_of text end) (closed_of (read_of start (take (end - (at + 1)) (drop (at + 1) text))))
+
+-- where the first newline stands, if there is one
+abbrev pub newline_of : List ℕ → Option ℕ
+newline_of = position (λ b. b == 10)
 
 -- the first newline at a place or behind it, or the end of the text
 abbrev pub newline_from : List ℕ → ℕ → ℕ

@@ -6,9 +6,8 @@
 
 #![tactic(auto)]
 
-ghost use Rattle.std.specs.Prelude.{◌≡◌, ◌≤◌, ◌<◌, ◌==◌, length};
-ghost use Rattle.std.specs.List.{position};
-ghost use Rattle.answers.specs.Lines.{digit_of, broken_of, kept_of, closed_of, longer_of, next_of, read_of, start, bare_of, behind_of, newline_from, line_at};
+ghost use Rattle.std.specs.Prelude.{◌≡◌, ◌≤◌, ◌<◌, length};
+ghost use Rattle.answers.specs.Lines.{digit_of, broken_of, kept_of, closed_of, longer_of, next_of, read_of, start, bare_of, behind_of, newline_of, newline_from, line_at};
 
 // The numbers of a line: a call has at most four arguments and four numbers in its answer.
 const MOST: usize = 8;
@@ -141,7 +140,7 @@ fn read_numbers(part: &[u8]) -> Numbers
 
 // Where the first newline stands, if there is one.
 fn newline(text: &[u8]) -> Option<usize>
-    ensures { result ≡ position (λ b. b == 10) text.now }
+    ensures { result ≡ newline_of text.now }
 {
     text.iter().position(|b| *b == b'\n')
 }

@@ -4,15 +4,18 @@
 //! crate lists stands in the order of our segments.
 
 #![tactic(auto)]
+
 mod editions;
 mod leaves;
 mod score;
 
-ghost use Rattle.io.specs.Counts.{IsPrefixLen};
+ghost use Rattle.std.specs.Prelude.{◌≤◌, IfOk, length};
 
 use answers::Line;
 use score::Score;
-use std::io;
+use std::fs;
+use std::io::{self, Read};
+use std::rt::Files;
 
 // What a file is about, and how far it was replayed.
 #[derive(Clone, Copy)]
@@ -59,7 +62,13 @@ fn show(rt: &impl Print, file: File, score: Score) -> io::Result<()> {
 }
 
 // Replays the lines of a file, with words for what they are replayed on, and an output for what is listed.
-fn replay(rt: &impl Print, text: &[u8], words: &mut [u64], out: &mut [u64], first: File) -> io::Result<Score> {
+fn replay(
+    rt: &impl Print,
+    text: &[u8],
+    words: &mut [u64],
+    out: &mut [u64],
+    first: File,
+) -> io::Result<Score> {
     let mut file = first;
     let mut score = Score::new();
     let mut at = 0;
@@ -75,64 +84,76 @@ fn replay(rt: &impl Print, text: &[u8], words: &mut [u64], out: &mut [u64], firs
     Ok(score)
 }
 
-// Reads a file of the data folder, and answers how many bytes it has; none, and a message, where it cannot be read.
-fn read(name: &[u8], text: &mut [u8]) -> usize
-    ensures { IsPrefixLen result text.new }
+// Reads a file of the data folder, as far as the text has room for it, and answers how many bytes that are.
+fn read(rt: &impl Files, name: &str, text: &mut [u8]) -> io::Result<usize>
+    ensures { IfOk result (λ n. n ≤ length text.new) }
 {
-    let fd = os::open_read(name);
-    if fd < 0 {
-        os::fail(name);
-        return 0;
+    let mut file = fs::open(rt, name)?;
+    let mut length = 0;
+    while length < text.len() {
+        let n = file.read(&mut text[length..])?;
+        if n == 0 {
+            return Ok(length);
+        }
+        length += n;
     }
-    let length = io::read_full(fd, text);
-    libc::close(fd);
-    length
+    Ok(length)
 }
 
-fn replay_file(rt: &impl Print, name: &[u8], words: &mut [u64], file: File) -> io::Result<Score> {
-    let mut text = io::large_buffer();
+fn replay_file(
+    rt: &(impl Print + Files),
+    name: &str,
+    words: &mut [u64],
+    file: File,
+) -> io::Result<Score> {
+    let mut text = [0u8; 65536];
     let mut out = [0u64; 1024];
-    let length = read(name, &mut text);
-    print::say(rt, name)?;
+    let length = read(rt, name, &mut text)?;
+    print::say(rt, name.as_bytes())?;
     replay(rt, &text[..length], words, &mut out, file)
 }
 
 // A sparse array has at most 64 words.
-fn replay_leaves(rt: &impl Print, name: &[u8]) -> io::Result<()> {
+fn replay_leaves(rt: &(impl Print + Files), name: &str) -> io::Result<()> {
     let mut words = [0u64; 64];
     replay_file(rt, name, &mut words, File::Leaves(leaves::Tally::new()))?;
-Ok(())
+    Ok(())
 }
 
 // A file on editions, and the files before it. No arena of the stored answers has more words.
-fn replay_editions(rt: &impl Print, before: Score, name: &[u8], degree: u64) -> io::Result<Score> {
+fn replay_editions(
+    rt: &(impl Print + Files),
+    before: Score,
+    name: &str,
+    degree: u64,
+) -> io::Result<Score> {
     let mut words = [0u64; 8192];
     let tally = editions::Tally::new(degree);
     Ok(before.and(replay_file(rt, name, &mut words, File::Editions(tally))?))
 }
 
 // All calls, at each degree.
-fn replay_degrees(rt: &impl Print, before: Score) -> io::Result<Score> {
-    let mut all = replay_editions(rt, before, b"degree_02", 2)?;
-    all = replay_editions(rt, all, b"degree_04", 4)?;
-    all = replay_editions(rt, all, b"degree_08", 8)?;
-    all = replay_editions(rt, all, b"degree_16", 16)?;
-    all = replay_editions(rt, all, b"degree_32", 32)?;
-    replay_editions(rt, all, b"degree_64", 64)
+fn replay_degrees(rt: &(impl Print + Files), before: Score) -> io::Result<Score> {
+    let mut all = replay_editions(rt, before, "degree_02", 2)?;
+    all = replay_editions(rt, all, "degree_04", 4)?;
+    all = replay_editions(rt, all, "degree_08", 8)?;
+    all = replay_editions(rt, all, "degree_16", 16)?;
+    all = replay_editions(rt, all, "degree_32", 32)?;
+    replay_editions(rt, all, "degree_64", 64)
 }
 
 // The calls that only make editions, at each degree.
-fn replay_grows(rt: &impl Print, before: Score) -> io::Result<Score> {
-    let mut all = replay_editions(rt, before, b"grows_02", 2)?;
-    all = replay_editions(rt, all, b"grows_04", 4)?;
-    all = replay_editions(rt, all, b"grows_08", 8)?;
-    all = replay_editions(rt, all, b"grows_16", 16)?;
-    all = replay_editions(rt, all, b"grows_32", 32)?;
-    replay_editions(rt, all, b"grows_64", 64)
+fn replay_grows(rt: &(impl Print + Files), before: Score) -> io::Result<Score> {
+    let mut all = replay_editions(rt, before, "grows_02", 2)?;
+    all = replay_editions(rt, all, "grows_04", 4)?;
+    all = replay_editions(rt, all, "grows_08", 8)?;
+    all = replay_editions(rt, all, "grows_16", 16)?;
+    all = replay_editions(rt, all, "grows_32", 32)?;
+    replay_editions(rt, all, "grows_64", 64)
 }
 
 fn main(rt: HostRuntime) -> io::Result<()> {
-    replay_leaves(&rt, b"leaves")?;
+    replay_leaves(&rt, "leaves")?;
     let degrees = replay_degrees(&rt, Score::new())?;
     replay_grows(&rt, degrees)?.show_all(&rt)
 }

@@ -5,9 +5,7 @@ use tags::Class;
 fn class(rt: &impl Print, group: u16, element: u16) -> io::Result<()> {
     match tags::class_of(group, element) {
         Class::Public => print::say(rt, b"public"),
-        Class::Creator { block } => {
-            print::hex(rt, b"creator of block ", block as u64, 2)
-        }
+        Class::Creator { block } => { print::hex(rt, b"creator of block ", block as u64, 2) }
         Class::Element { block, low } => {
             print::hex(rt, b"element ", low as u64, 2)?;
             print::hex(rt, b" of block ", block as u64, 2)

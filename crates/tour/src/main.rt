@@ -3,6 +3,7 @@
 //! `sparse_array` and prints what they answer; the file stdout beside it is what it has to print.
 
 #![tactic(auto)]
+
 mod classes;
 mod degrees;
 mod paths;

@@ -29,7 +29,7 @@ fn walk(rt: &impl Print, hash: u64, degree: u64) -> io::Result<()> {
         }
         depth += 1;
     }
-Ok(())
+    Ok(())
 }
 
 fn path(rt: &impl Print, hash: u64, degree: u64) -> io::Result<()> {

@@ -9,7 +9,7 @@ fn packed(rt: &impl Print, words: &[u64]) -> io::Result<()> {
         print::hex(rt, b" ", words[i], 1)?;
         i += 1;
     }
-Ok(())
+    Ok(())
 }
 
 // Prints the rest of a line, what the call answered, and answers the bitmap that goes with the words now.
@@ -84,7 +84,10 @@ fn take_out(rt: &impl Print, bitmap: u64, words: &mut [u64]) -> io::Result<u64> 
 }
 
 pub fn show(rt: &impl Print) -> io::Result<()> {
-    print::say(rt, b"A sparse array of three words (words and bitmap in hex)\n")?;
+    print::say(
+        rt,
+        b"A sparse array of three words (words and bitmap in hex)\n",
+    )?;
     let mut words = [0u64; 3];
     let full = fill(rt, &mut words)?;
     read(rt, full, &words)?;
