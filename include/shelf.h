@@ -5,7 +5,7 @@
  * one, and the two share what they have in common. No edition ever loses an entry that no call on that
  * edition took away.
  *
- * The functions are those of libshelf_c.a, which `rt staticlib shelf_c` makes of proved code for 64-bit x86.
+ * The functions are those of libshelf_c.a, which `rt lib`, in crates/shelf_c, makes of proved code for 64-bit x86.
  * They allocate nothing, keep nothing between calls, and need nothing but memcpy and memset of the C library.
  *
  *     uint64_t words[SHELF_WORDS(16, 100, 100, 8)];

@@ -1,5 +1,5 @@
-//! Finds the proved library, `libshelf_c.a`, and has it linked. `rt staticlib shelf_c` writes it to `target/staticlib`
-//! of the repository; the environment variable `SHELF_C` names another folder.
+//! Finds the proved library, `libshelf_c.a`, and has it linked. `rt lib`, in `crates/shelf_c`, writes it to the folder `out`
+//! there; the environment variable `SHELF_C` names another folder.
 use std::env;
 use std::path::PathBuf;
 
@@ -8,12 +8,12 @@ fn main() {
     let here = PathBuf::from(env::var_os("CARGO_MANIFEST_DIR").expect("cargo names the crate's folder"));
     let folder = match env::var_os("SHELF_C") {
         Some(folder) => PathBuf::from(folder),
-        None => here.join("../../target/staticlib"),
+        None => here.join("../../crates/shelf_c/out"),
     };
     let archive = folder.join("libshelf_c.a");
     println!("cargo::rerun-if-changed={}", archive.display());
     if !archive.is_file() {
-        println!("cargo::error=there is no {}: make it by `rt staticlib shelf_c`", archive.display());
+        println!("cargo::error=there is no {}: make it by `rt lib` in crates/shelf_c", archive.display());
         return;
     }
     println!("cargo::rustc-link-search=native={}", folder.display());

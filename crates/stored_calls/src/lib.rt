@@ -2,6 +2,7 @@
 //! programs that replay them, beside `answers`, which reads their lines.
 
 #![tactic(auto)]
+
 use flat::{
     Flat, of_compared, of_counted, of_dropped, of_formatted, of_found, of_made, of_updated, of_use,
 };
