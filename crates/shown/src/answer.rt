@@ -128,7 +128,13 @@ pub fn say_dropped(rt: &impl Print, answer: Dropped) -> io::Result<()> {
 }
 
 // Whether two editions have the same entries.
-pub fn say_compared(rt: &impl Print, a: &[u64], label: &[u8], first: u64, second: u64) -> io::Result<()> {
+pub fn say_compared(
+    rt: &impl Print,
+    a: &[u64],
+    label: &[u8],
+    first: u64,
+    second: u64,
+) -> io::Result<()> {
     print::say(rt, label)?;
     match shelf::equal(a, first, second) {
         Compared::Equal => print::say(rt, b" equal\n"),

@@ -25,7 +25,13 @@ fn say(rt: &impl Print, label: &[u8], words: &[u64]) -> io::Result<()> {
 }
 
 // The words from a place on and before another.
-pub fn say_part(rt: &impl Print, label: &[u8], words: &[u64], from: usize, end: usize) -> io::Result<()>
+pub fn say_part(
+    rt: &impl Print,
+    label: &[u8],
+    words: &[u64],
+    from: usize,
+    end: usize,
+) -> io::Result<()>
     requires { (from ≤ end) × (end ≤ length words.now) }
 {
     say(rt, label, &words[from..end])

@@ -3,6 +3,7 @@
 //! on `shelf` and `print`.
 
 #![tactic(auto)]
+
 pub mod answer;
 pub mod damaged;
 pub mod entries;

@@ -14,7 +14,7 @@ fn say_entries(rt: &impl Print, words: &[u64]) -> io::Result<()> {
         print::say(rt, b")")?;
         i += 3;
     }
-Ok(())
+    Ok(())
 }
 
 // How many entries the call answers, and the entries.
@@ -43,5 +43,5 @@ pub fn first(rt: &impl Print, a: &[u64], editions: u64) -> io::Result<()> {
         numbered(rt, a, edition)?;
         edition += 1;
     }
-Ok(())
+    Ok(())
 }
