@@ -25,7 +25,13 @@ fn degree_of(turn: u64, power: bool) -> u64 {
     }
 }
 
-fn try_all(rt: &impl Print, a: &mut [u64], label: &[u8], turns: u64, power: bool) -> io::Result<()> {
+fn try_all(
+    rt: &impl Print,
+    a: &mut [u64],
+    label: &[u8],
+    turns: u64,
+    power: bool,
+) -> io::Result<()> {
     print::say(rt, label)?;
     let mut refused = 0;
     let mut turn = 0;
@@ -47,7 +53,8 @@ pub fn show(rt: &impl Print) -> io::Result<()> {
     print::say(rt, b"Degrees (all sizes 1, 8192 words)\n")?;
     let mut a = [0u64; 8192];
     try_all(rt, &mut a, b"  0 to 300: accepted", 301, false)?;
-    try_all(rt, 
+    try_all(
+        rt,
         &mut a,
         b"  1 to 2^63, the powers of two: accepted",
         64,

@@ -3,6 +3,7 @@
 //! beside it is what it has to print.
 
 #![tactic(auto)]
+
 mod degrees;
 mod free_chains;
 mod marked;

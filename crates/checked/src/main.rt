@@ -4,6 +4,7 @@
 //! is what it has to print.
 
 #![tactic(auto)]
+
 mod keys;
 mod run;
 mod runs;

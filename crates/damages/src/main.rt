@@ -3,6 +3,7 @@
 //! stdout beside it is what it has to print.
 
 #![tactic(auto)]
+
 mod small;
 mod turns;
 

@@ -140,7 +140,10 @@ fn tell(rt: &impl Print, degree: u64) -> io::Result<()> {
 }
 
 pub fn show(rt: &impl Print) -> io::Result<()> {
-    print::say(rt, b"Each word changed in turn (check, and a decision by reachability)\n")?;
+    print::say(
+        rt,
+        b"Each word changed in turn (check, and a decision by reachability)\n",
+    )?;
     tell(rt, 2)?;
     tell(rt, 4)?;
     tell(rt, 8)?;
