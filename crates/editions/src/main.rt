@@ -3,6 +3,7 @@
 //! what the calls answer, as document 01's numbers; the file stdout beside it is what it has to print.
 
 #![tactic(auto)]
+
 mod refusals;
 mod shared;
 mod slots;

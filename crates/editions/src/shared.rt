@@ -22,7 +22,10 @@ fn lay_in(a: &mut [u64], z: Shape)
 
 fn lay(rt: &impl Print, a: &mut [u64]) -> io::Result<()> {
     match header::read(&*a) {
-        Heading::Right(z) => { lay_in(a, z); Ok(()) },
+        Heading::Right(z) => {
+            lay_in(a, z);
+            Ok(())
+        },
         Heading::Wrong => print::say(rt, b"  NO ARENA\n"),
     }
 }
@@ -52,7 +55,10 @@ fn read(rt: &impl Print, a: &[u64]) -> io::Result<()> {
 }
 
 pub fn show(rt: &impl Print) -> io::Result<()> {
-    print::say(rt, b"A share of an edition with a root (degree 16, 3 slots)\n")?;
+    print::say(
+        rt,
+        b"A share of an edition with a root (degree 16, 3 slots)\n",
+    )?;
     let mut a = [0u64; 46];
     shelf::format(&mut a, 16, 1, 1, 3);
     lay(rt, &mut a)?;

@@ -3,6 +3,7 @@
 //! beside it is what it has to print.
 
 #![tactic(auto)]
+
 mod alone;
 mod refusals;
 

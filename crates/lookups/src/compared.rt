@@ -20,5 +20,5 @@ pub fn show(rt: &impl Print, a: &[u64]) -> io::Result<()> {
         row(rt, a, first)?;
         first += 1;
     }
-Ok(())
+    Ok(())
 }

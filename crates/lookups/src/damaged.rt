@@ -23,7 +23,7 @@ fn with(rt: &impl Print, a: &mut [u64], label: &[u8], at: usize, word: u64) -> i
         tried(rt, a, label)?;
         a[at] = before;
     }
-Ok(())
+    Ok(())
 }
 
 fn header_and_slot(rt: &impl Print, a: &mut [u64]) -> io::Result<()> {

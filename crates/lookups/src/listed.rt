@@ -51,7 +51,7 @@ fn from_place(rt: &impl Print, a: &[u64], all: &[u64], place: usize, room: usize
     if !is_part(all, place, n, &out) {
         print::say(rt, b" WRONG")?;
     }
-Ok(())
+    Ok(())
 }
 
 fn every_room(rt: &impl Print, a: &[u64], all: &[u64], place: usize) -> io::Result<()>
@@ -82,5 +82,5 @@ pub fn show(rt: &impl Print, a: &[u64]) -> io::Result<()> {
         every_room(rt, a, &all, place)?;
         place += 1;
     }
-Ok(())
+    Ok(())
 }

@@ -3,6 +3,7 @@
 //! prints what the calls answer; the file stdout beside it is what it has to print.
 
 #![tactic(auto)]
+
 mod answer;
 mod compared;
 mod damaged;

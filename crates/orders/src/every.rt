@@ -113,7 +113,13 @@ fn listed_otherwise(a: &[u64], before: &[u64]) -> u64 {
 }
 
 // A drop that is to leave so many editions. Answers how much is not as it should be behind it.
-fn let_go(rt: &impl Print, a: &mut [u64], before: &[u64], edition: u64, left: u64) -> io::Result<u64>
+fn let_go(
+    rt: &impl Print,
+    a: &mut [u64],
+    before: &[u64],
+    edition: u64,
+    left: u64,
+) -> io::Result<u64>
     requires { edition ≤ 6 }
 {
     let was = in_use(a);
@@ -127,7 +133,13 @@ fn let_go(rt: &impl Print, a: &mut [u64], before: &[u64], edition: u64, left: u6
 
 // So many editions dropped, in the order of a number: what it leaves when it is divided by how many are left says which is
 // next.
-fn drop_all(rt: &impl Print, a: &mut [u64], before: &[u64], editions: u64, order: u64) -> io::Result<u64> {
+fn drop_all(
+    rt: &impl Print,
+    a: &mut [u64],
+    before: &[u64],
+    editions: u64,
+    order: u64,
+) -> io::Result<u64> {
     let mut other = 0;
     let mut rest = order;
     let mut left = editions;
@@ -161,7 +173,8 @@ pub fn order(rt: &impl Print, before: &[u64], set: Set) -> io::Result<()> {
         order += 1;
     }
     print::decimal(rt, b"    ", set.orders)?;
-    print::decimal(rt, 
+    print::decimal(
+        rt,
         b" orders: each edition left listed as before, in use less by what is freed, every cell free at the end: ",
         other,
     )?;

@@ -3,6 +3,7 @@
 //! the file stdout beside it is what it has to print.
 
 #![tactic(auto)]
+
 mod every;
 mod free_cells;
 mod sets;

@@ -67,7 +67,13 @@ fn sum(words: &[u64]) -> u64 {
 // No edition that is kept has more than 40 entries.
 const FULL: usize = 120;
 
-pub fn alone(rt: &impl Print, a: &mut [u64], slots: u64, kept: u64, down: bool) -> io::Result<Freed> {
+pub fn alone(
+    rt: &impl Print,
+    a: &mut [u64],
+    slots: u64,
+    kept: u64,
+    down: bool,
+) -> io::Result<Freed> {
     let mut before = [0u64; FULL];
     let mut behind = [0u64; FULL];
     answer::say_counted(rt, shelf::list(a, kept, 0, &mut before))?;

@@ -4,6 +4,7 @@
 //! it is what it has to print.
 
 #![tactic(auto)]
+
 mod fill;
 mod kept;
 mod keys;

@@ -84,7 +84,13 @@ fn again(rt: &impl Print, a: &mut [u64]) -> io::Result<()> {
     print::say(rt, b"\n")
 }
 
-fn say_degree(rt: &impl Print, degree: u64, branches: u64, entries: u64, slots: u64) -> io::Result<()> {
+fn say_degree(
+    rt: &impl Print,
+    degree: u64,
+    branches: u64,
+    entries: u64,
+    slots: u64,
+) -> io::Result<()> {
     print::decimal(rt, b"Degree ", degree)?;
     print::decimal(rt, b", cells ", branches)?;
     print::decimal(rt, b" ", entries)?;
@@ -92,7 +98,14 @@ fn say_degree(rt: &impl Print, degree: u64, branches: u64, entries: u64, slots: 
     print::say(rt, b"\n")
 }
 
-fn at_degree(rt: &impl Print, a: &mut [u64], degree: u64, branches: u64, entries: u64, slots: u64) -> io::Result<()> {
+fn at_degree(
+    rt: &impl Print,
+    a: &mut [u64],
+    degree: u64,
+    branches: u64,
+    entries: u64,
+    slots: u64,
+) -> io::Result<()> {
     say_degree(rt, degree, branches, entries, slots)?;
     shelf::format(a, degree, branches, entries, slots);
     let kept = three(rt, a, slots)?;

@@ -3,6 +3,7 @@
 //! `shelf` and prints what the calls answer; the file stdout beside it is what it has to print.
 
 #![tactic(auto)]
+
 mod root;
 mod rows;
 mod shows;

@@ -21,7 +21,8 @@ fn to_k10(rt: &impl Print, a: &mut [u64]) -> io::Result<()> {
 
 // K6 is edition 12.
 fn also(rt: &impl Print, a: &mut [u64]) -> io::Result<()> {
-    shows::insert(rt, 
+    shows::insert(
+        rt,
         a,
         b"  key 6 under D's hash into 5",
         5,

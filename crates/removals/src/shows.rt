@@ -30,7 +30,7 @@ fn editions_to(rt: &impl Print, a: &[u64], edition: u64) -> io::Result<()> {
         say_root(rt, a, edition)?;
         listed::first(rt, a, edition + 1)?;
     }
-Ok(())
+    Ok(())
 }
 
 pub fn update(rt: &impl Print, a: &[u64], label: &[u8], answer: Updated) -> io::Result<()> {
@@ -47,12 +47,27 @@ pub fn update(rt: &impl Print, a: &[u64], label: &[u8], answer: Updated) -> io::
     }
 }
 
-pub fn remove(rt: &impl Print, a: &mut [u64], label: &[u8], edition: u64, hash: u64, key: u64) -> io::Result<()> {
+pub fn remove(
+    rt: &impl Print,
+    a: &mut [u64],
+    label: &[u8],
+    edition: u64,
+    hash: u64,
+    key: u64,
+) -> io::Result<()> {
     let answer = shelf::remove(a, edition, hash, key);
     update(rt, a, label, answer)
 }
 
-pub fn insert(rt: &impl Print, a: &mut [u64], label: &[u8], edition: u64, hash: u64, key: u64, value: u64) -> io::Result<()> {
+pub fn insert(
+    rt: &impl Print,
+    a: &mut [u64],
+    label: &[u8],
+    edition: u64,
+    hash: u64,
+    key: u64,
+    value: u64,
+) -> io::Result<()> {
     let answer = shelf::insert(a, edition, hash, key, value);
     update(rt, a, label, answer)
 }

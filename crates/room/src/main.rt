@@ -3,6 +3,7 @@
 //! what the calls answer; the file stdout beside it is what it has to print.
 
 #![tactic(auto)]
+
 mod exact;
 mod refusals;
 

@@ -4,7 +4,14 @@ use shown::{answer, damaged, lent};
 use std::io;
 
 // Insert and change of a key, by their numbers.
-fn both(rt: &impl Print, a: &mut [u64], label: &[u8], edition: u64, hash: u64, key: u64) -> io::Result<()> {
+fn both(
+    rt: &impl Print,
+    a: &mut [u64],
+    label: &[u8],
+    edition: u64,
+    hash: u64,
+    key: u64,
+) -> io::Result<()> {
     let inserted = answer::of_updated(shelf::insert(a, edition, hash, key, 1));
     let changed = answer::of_updated(shelf::change(a, edition, hash, key, 1));
     print::decimal(rt, label, inserted)?;
@@ -45,7 +52,8 @@ fn before_full(rt: &impl Print, a: &mut [u64]) -> io::Result<()> {
 
 fn when_full(rt: &impl Print, a: &mut [u64]) -> io::Result<()> {
     let mut copy = [0u64; 46];
-    print::decimal(rt, 
+    print::decimal(
+        rt,
         b"  a share takes the last slot: ",
         answer::of_made(shelf::share(a, 1)),
     )?;
@@ -56,7 +64,10 @@ fn when_full(rt: &impl Print, a: &mut [u64]) -> io::Result<()> {
 }
 
 pub fn show(rt: &impl Print) -> io::Result<()> {
-    print::say(rt, b"Refusals (degree 16, a branch cell, an entry cell, 3 slots)\n  K1")?;
+    print::say(
+        rt,
+        b"Refusals (degree 16, a branch cell, an entry cell, 3 slots)\n  K1",
+    )?;
     let mut a = [0u64; 46];
     small(rt, &mut a)?;
     before_full(rt, &mut a)?;

@@ -60,7 +60,13 @@ fn within(rt: &impl Print, label: &[u8], row: Row, branches: u64, entries: u64) 
     lent::say_kept(rt, &a, &copy)
 }
 
-fn with_these(rt: &impl Print, label: &[u8], row: Row, branches: u64, entries: u64) -> io::Result<()> {
+fn with_these(
+    rt: &impl Print,
+    label: &[u8],
+    row: Row,
+    branches: u64,
+    entries: u64,
+) -> io::Result<()> {
     print::say(rt, label)?;
     print::decimal(rt, b" needs ", branches)?;
     print::decimal(rt, b" ", entries)?;
@@ -77,7 +83,13 @@ fn and_fewer(rt: &impl Print, label: &[u8], row: Row, branches: u64, entries: u6
 }
 
 // For a removal that takes cells of both kinds.
-fn and_fewer_of_both(rt: &impl Print, label: &[u8], row: Row, branches: u64, entries: u64) -> io::Result<()>
+fn and_fewer_of_both(
+    rt: &impl Print,
+    label: &[u8],
+    row: Row,
+    branches: u64,
+    entries: u64,
+) -> io::Result<()>
     requires { (1 ≤ branches) × (1 ≤ entries) }
 {
     and_fewer(rt, label, row, branches, entries)?;

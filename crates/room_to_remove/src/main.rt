@@ -3,6 +3,7 @@
 //! file stdout beside it is what it has to print.
 
 #![tactic(auto)]
+
 mod exact;
 mod refusals;
 

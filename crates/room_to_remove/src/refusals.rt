@@ -6,7 +6,14 @@ use std::io;
 // The words of the arena, and so of its copy: 21 branch cells, 5 entry cells and 7 slots.
 const WORDS: usize = 462;
 
-fn remove(rt: &impl Print, a: &mut [u64], label: &[u8], edition: u64, hash: u64, key: u64) -> io::Result<()> {
+fn remove(
+    rt: &impl Print,
+    a: &mut [u64],
+    label: &[u8],
+    edition: u64,
+    hash: u64,
+    key: u64,
+) -> io::Result<()> {
     let number = answer::of_updated(shelf::remove(a, edition, hash, key));
     print::decimal(rt, label, number)
 }
@@ -29,7 +36,14 @@ fn absent(rt: &impl Print, a: &mut [u64]) -> io::Result<()> {
 
 // D needs a cell of each kind and A out of 1 needs none.
 fn no_slot(rt: &impl Print, a: &mut [u64]) -> io::Result<()> {
-    remove(rt, a, b"  all slots held, D out of 5: ", 5, entries::CHAIN, 4)?;
+    remove(
+        rt,
+        a,
+        b"  all slots held, D out of 5: ",
+        5,
+        entries::CHAIN,
+        4,
+    )?;
     remove(rt, a, b"; A out of 1: ", 1, 0x26, 1)
 }
 
@@ -65,7 +79,10 @@ fn dropped(rt: &impl Print, a: &mut [u64], label: &[u8], edition: u64) -> io::Re
 
 // The share has no cell of its own; K1 has its root.
 pub fn show(rt: &impl Print) -> io::Result<()> {
-    print::say(rt, b"Refusals (degree 16, K1 to K5, all 21 and 5 cells in use, 7 slots)\n")?;
+    print::say(
+        rt,
+        b"Refusals (degree 16, K1 to K5, all 21 and 5 cells in use, 7 slots)\n",
+    )?;
     let mut a = [0u64; WORDS];
     shelf::format(&mut a, 16, 21, 5, 7);
     steps::before(&mut a, 6);

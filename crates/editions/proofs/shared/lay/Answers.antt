@@ -1,0 +1,9 @@
+-- `editions::shared::lay` meets what `lay_in` requires: a header that is right says that the slice is long enough for
+-- its shape.
+-- Assumes nothing.
+use Rattle.std.proofs.Common.{sym, ◌∙◌}
+use Rattle.layout.proofs.HeaderLaws.{Header-says, Header-Lent}
+use Rattle.editions.proofs.shared.lay.Goals as goal
+
+pub lay_in-requires : goal.lay_in-requires
+lay_in-requires g c = Header-Lent _ _ ((Header-says _ _).0 (sym c.read.ensures ∙ c.in-Right.is))
