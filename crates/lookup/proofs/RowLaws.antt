@@ -1,7 +1,7 @@
 -- A branch's bitmap says which children it has and where they stand: since the segments ascend, the bit of a segment is set
 -- exactly if there is a child at it, and the child's place among the packed ones is how many bits are set below.
 use Prim.Native.Nat.{ℕ, zero, suc, ◌+◌, ◌*◌, ◌^◌, ◌≤◌, ◌<◌}
-use mathlib.Core.Path.{◌≡◌, refl, sym, ap, ◌∙◌}
+use mathlib.Core.Path.{◌≡◌, sym, ap, ◌∙◌}
 use mathlib.Core.Logic.{⊎_elim}
 use native.Mathlib.Nat.{add_comm, zero-mul}
 use native.Mathlib.Omega.{arith}

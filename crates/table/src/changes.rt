@@ -13,13 +13,20 @@ fn change(rt: &impl Print, a: &mut [u64], label: &[u8], e: Entry) -> io::Result<
 }
 
 fn absent(rt: &impl Print, a: &mut [u64]) -> io::Result<()> {
-    change(rt, a, b"  key 6", entries::an_entry(0x7000000000000008, 6, 60))?;
-    change(rt, 
+    change(
+        rt,
+        a,
+        b"  key 6",
+        entries::an_entry(0x7000000000000008, 6, 60),
+    )?;
+    change(
+        rt,
         a,
         b"  D's key under hash 42",
         entries::an_entry(0x42, 4, 40),
     )?;
-    change(rt, 
+    change(
+        rt,
         a,
         b"  D's hash with A's key",
         entries::an_entry(0x7000000000000008, 1, 1),
@@ -30,7 +37,14 @@ fn present(rt: &impl Print, a: &mut [u64]) -> io::Result<()> {
     change(rt, a, b"  D to 41", entries::of_step(6))?;
     change(rt, a, b"  E to 50 again", entries::of_step(5))?;
     change(rt, a, b"  C to 33", entries::an_entry(0x42, 3, 33))?;
-    steps::insert(rt, a, b"  A with 10 again, inserted", 5, entries::of_step(1), 0)
+    steps::insert(
+        rt,
+        a,
+        b"  A with 10 again, inserted",
+        5,
+        entries::of_step(1),
+        0,
+    )
 }
 
 fn compare_all(rt: &impl Print, a: &[u64]) -> io::Result<()> {

@@ -10,8 +10,16 @@ fn at_degree(rt: &impl Print, degree: u64, branches: u64) -> io::Result<()> {
     let mut a = [0u64; 837];
     shelf::format(&mut a, degree, branches, 2, 3);
     shelf::new_edition(&mut a);
-    steps::insert(rt, &mut a, b"  hash 0 into 0", 0, entries::an_entry(0, 1, 1), 2)?;
-    steps::insert(rt, 
+    steps::insert(
+        rt,
+        &mut a,
+        b"  hash 0 into 0",
+        0,
+        entries::an_entry(0, 1, 1),
+        2,
+    )?;
+    steps::insert(
+        rt,
         &mut a,
         b"  hash 2^63 into 1",
         1,

@@ -3,6 +3,7 @@
 //! stands on `shelf` and prints what the calls answer; the file stdout beside it is what it has to print.
 
 #![tactic(auto)]
+
 mod changes;
 mod far;
 mod names;

@@ -21,7 +21,14 @@ fn named(a: &[u64], from: usize, end: usize, width: usize, times: u64) -> u64
 }
 
 // The cells that are named 0 to 13 times.
-fn say_kind(rt: &impl Print, a: &[u64], label: &[u8], from: usize, end: usize, width: usize) -> io::Result<()>
+fn say_kind(
+    rt: &impl Print,
+    a: &[u64],
+    label: &[u8],
+    from: usize,
+    end: usize,
+    width: usize,
+) -> io::Result<()>
     requires { (1 ≤ width) × (width ≤ 19) × (end ≤ 8192) }
 {
     print::say(rt, label)?;
@@ -30,14 +37,21 @@ fn say_kind(rt: &impl Print, a: &[u64], label: &[u8], from: usize, end: usize, w
         print::decimal(rt, b" ", named(a, from, end, width, times))?;
         times += 1;
     }
-Ok(())
+    Ok(())
 }
 
 // The branch cells lie from a word on and the entry cells from another, up to the end of the arena.
-pub fn say(rt: &impl Print, a: &[u64], branches: usize, entries: usize, end: usize) -> io::Result<()>
+pub fn say(
+    rt: &impl Print,
+    a: &[u64],
+    branches: usize,
+    entries: usize,
+    end: usize,
+) -> io::Result<()>
     requires { (entries ≤ 8192) × (end ≤ 8192) }
 {
-    say_kind(rt, 
+    say_kind(
+        rt,
         a,
         b"  named 0 to 13 times: branch cells",
         branches,

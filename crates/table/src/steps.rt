@@ -6,7 +6,14 @@ use shown::{answer, entries, listed};
 use std::io;
 
 // An insert, what is in use behind it, and the first so many editions.
-pub fn insert(rt: &impl Print, a: &mut [u64], label: &[u8], edition: u64, e: Entry, editions: u64) -> io::Result<()> {
+pub fn insert(
+    rt: &impl Print,
+    a: &mut [u64],
+    label: &[u8],
+    edition: u64,
+    e: Entry,
+    editions: u64,
+) -> io::Result<()> {
     print::say(rt, label)?;
     answer::say_updated(rt, shelf::insert(a, edition, e.hash, e.key, e.value))?;
     answer::say_use(rt, b"; in use", a)?;

@@ -2,6 +2,7 @@
 //! It stands on `shelf` and prints what the calls answer; the file stdout beside it is what it has to print.
 
 #![tactic(auto)]
+
 mod unsound;
 
 use std::io;

@@ -105,7 +105,7 @@ fn with(rt: &impl Print, a: &mut [u64], label: &[u8], r: u64, k: usize, word: u6
     put(a, r, k, word);
     tried(rt, a, label)?;
     begin(a);
-Ok(())
+    Ok(())
 }
 
 // A branch has its children from the fourth word on: those of K5's root are C, the branch of A and B, and the path of D and E.
@@ -142,7 +142,8 @@ fn counted(rt: &impl Print, a: &mut [u64]) -> io::Result<()> {
     let path = get(a, r, 5);
     with(rt, a, b"  the count of K5's root is 0:", r, 0, 0)?;
     with(rt, a, b"  the count of K5's root is too large:", r, 0, 9)?;
-    with(rt, 
+    with(
+        rt,
         a,
         b"  the count of the path of D and E is the largest number:",
         path,
@@ -150,7 +151,8 @@ fn counted(rt: &impl Print, a: &mut [u64]) -> io::Result<()> {
         u64::MAX,
     )?;
     with(rt, a, b"  the count of B is 0:", b, 0, 0)?;
-    with(rt, 
+    with(
+        rt,
         a,
         b"  the count of C is 1 though three roots name it:",
         c,
@@ -164,7 +166,14 @@ fn others(rt: &impl Print, a: &mut [u64]) -> io::Result<()> {
     let r = root(a);
     let path = get(a, r, 5);
     with(rt, a, b"  the depth of K5's root is 1:", r, 1, 1)?;
-    with(rt, a, b"  the depth of the path of D and E is 0:", path, 1, 0)?;
+    with(
+        rt,
+        a,
+        b"  the depth of the path of D and E is 0:",
+        path,
+        1,
+        0,
+    )?;
     with(rt, a, b"  the bitmap of K5's root is 0:", r, 2, 0)
 }
 
@@ -176,11 +185,14 @@ fn header(rt: &impl Print, a: &mut [u64], label: &[u8], at: usize, word: u64) ->
     lent::put(a, at + 1, word);
     tried(rt, a, label)?;
     begin(a);
-Ok(())
+    Ok(())
 }
 
 pub fn show(rt: &impl Print) -> io::Result<()> {
-    print::say(rt, b"Wrong words behind a right header (degree 16): K5 and then all others dropped\n")?;
+    print::say(
+        rt,
+        b"Wrong words behind a right header (degree 16): K5 and then all others dropped\n",
+    )?;
     let mut a = [7u64; WORDS];
     begin(&mut a);
     tried(rt, &mut a, b"  none:")?;
@@ -192,7 +204,8 @@ pub fn show(rt: &impl Print) -> io::Result<()> {
     header(rt, &mut a, b"  words 8 and 9 name no cell:", 8, 999)?;
     header(rt, &mut a, b"  words 8 and 9 are 0:", 8, 0)?;
     header(rt, &mut a, b"  words 10 and 11 are 0:", 10, 0)?;
-    header(rt, 
+    header(
+        rt,
         &mut a,
         b"  words 10 and 11 are the largest number:",
         10,

@@ -1,7 +1,6 @@
 use Rattle.lookup.specs.Lookup.{kid_at}
 use mathlib.Core.Path.{ap, sym, ◌∙◌}
 use Rattle.lookup.proofs.FindLaws.{path_first, path_stays, path_on, path_over}
-use Prim.Native.Nat.{◌-◌}
 use Rattle.segments.proofs.TableLaws.{below_depths}
 use Rattle.layout.proofs.SizeLaws.{row_is_Right}
 use Rattle.layout.specs.Columns.{columns}

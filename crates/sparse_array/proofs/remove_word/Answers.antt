@@ -1,4 +1,3 @@
-use Prim.Native.Nat.{◌-◌}
 use mathlib.Core.Path.{◌≡◌}
 use lib.ListN.{length-set}
 use Rattle.sparse_array.proofs.Shift.{closed_none, Closed-more, closed_cleared}

@@ -1,5 +1,4 @@
 use Rattle.cells.proofs.RowLaws.{row_end, row_none, row_next}
-use Prim.Native.Nat.{◌-◌}
 use mathlib.Core.Path.{refl, sym}
 use native.Mathlib.Omega.{arith}
 use Rattle.layout.proofs.ColumnLaws.{has_branch}

@@ -1,7 +1,6 @@
 use native.Mathlib.Omega.{arith}
 use Rattle.cells.proofs.SlotLaws.{free_start, free_here, free_next, free_none}
 use mathlib.Core.Path.{sym, ◌∙◌}
-use Prim.Native.Nat.{◌-◌}
 use Rattle.cells.proofs.slots.lowest_free.Goals as goal
 
 pub loop-s-init : goal.loop-s-init
