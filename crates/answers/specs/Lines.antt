@@ -1,6 +1,6 @@
 -- A line of the stored answers: a letter, then numbers. oracle/README.md says how it is written; this is how it is read, byte
 -- by byte. It takes more than is written: spaces and signs '=' may stand in any number between the numbers.
-use Rattle.std.specs.Prelude.{Option, Bool, true, false, cond, List, [], ◌∷◌, ℕ, ◌+◌, ◌*◌, ◌-◌, ◌^◌, ◌==◌, eqb, ltb, leb, length, get_or, set, take, drop}
+use Rattle.std.specs.Prelude.{Option, true, false, cond, List, [], ◌∷◌, ℕ, ◌+◌, ◌*◌, ◌-◌, ◌^◌, ◌==◌, eqb, ltb, leb, length, get_or, set, take, drop}
 use Rattle.std.specs.List.{position, position_or_len}
 use Rattle.answers.specs.declared.Line.{Line}
 use Rattle.answers.specs.declared.Numbers.{Numbers}

@@ -16,7 +16,6 @@ use Rattle.arena.proofs.RefLaws.{names_of}
 use Rattle.tallies.specs.Tallies.{work_words, work_place, Works}
 use Rattle.tallies.proofs.WorkLaws.{work_branch, work_entry}
 use Rattle.replies.specs.declared.Checked.{Checked}
-use Rattle.replies.specs.declared.Checked.TheVariants as K
 use Rattle.replies.specs.Answers.{answer, checked}
 use Rattle.checks.specs.Terms.{Checks, wrong_header, short_work, not_sound, is_sound}
 

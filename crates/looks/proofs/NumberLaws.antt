@@ -14,7 +14,6 @@ use Rattle.lookup.specs.Lookup.{get_below}
 use Rattle.iter.specs.Met.{met}
 use Rattle.cells.proofs.SlotLaws.{held_is}
 use Rattle.replies.specs.declared.Refusal.TheVariants as Why
-use Rattle.replies.specs.Outcomes.{leaves}
 use Rattle.looks.specs.Calls.{size_word, size_of, root_word, value_found, get_in, get_of, list_from, list_in, list_of, equal_of, in_use_of}
 use Rattle.looks.proofs.ReadLaws.{size_held, size_not_held}
 use Rattle.looks.proofs.LookLaws.{get_held, get_not_held, list_held, list_not_held, list_beyond, list_end, list_short, list_written, equal_held, equal_first_not_held, equal_second_not_held}

@@ -1,5 +1,5 @@
 use lib.ListN.{length-set}
-use Prim.Native.Nat.{◌+◌, ◌-◌}
+use Prim.Native.Nat.{◌+◌}
 use Rattle.reads.proofs.WriteLaws.{stored_length, Rest-start, Rest-next, rest_end, part_is}
 use mathlib.Core.Path.{sym, ◌∙◌}
 use Rattle.iter.proofs.WalkLaws.{met_stop, entry_here}

@@ -1,6 +1,5 @@
 -- `reads::write` meets its contract: what is written and what is still to come make up the whole. Assumes nothing.
 use lib.ListN.{length}
-use Prim.Native.Nat.{◌-◌}
 use Rattle.reads.proofs.WriteLaws.{Rest}
 use mathlib.Core.Path.{◌≡◌}
 use Rattle.iter.specs.Met.{still, Settled}

@@ -1,4 +1,3 @@
-use Prim.Native.Nat.{◌-◌}
 use mathlib.Core.Path.{refl}
 use Rattle.tallies.proofs.WorkLaws.{Zeros-none, Zeros-next, Zeros-all}
 use native.Mathlib.Omega.{arith}

@@ -1,4 +1,4 @@
-use Prim.Native.Nat.{ℕ, ◌-◌, ◌^◌, ◌≤◌, ◌<◌}
+use Prim.Native.Nat.{ℕ, ◌^◌, ◌≤◌, ◌<◌}
 use mathlib.Core.Path.{refl}
 use Rattle.layout.specs.Layout.{reference, cells_of}
 use Rattle.layout.specs.Columns.{columns}
