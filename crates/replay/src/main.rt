@@ -9,7 +9,7 @@ mod editions;
 mod leaves;
 mod score;
 
-ghost use Rattle.std.specs.Prelude.{◌≤◌, IfOk, length};
+ghost use Rattle.std.specs.Io.{ReadsAtMost};
 
 use answers::Line;
 use score::Score;
@@ -84,9 +84,10 @@ fn replay(
     Ok(score)
 }
 
-// Reads a file of the data folder, as far as the text has room for it, and answers how many bytes that are.
+// Reads a file of the data folder, as far as the text has room for it, and answers how many bytes that are. A file that cannot be
+// read is an error, and ends the program.
 fn read(rt: &impl Files, name: &str, text: &mut [u8]) -> io::Result<usize>
-    ensures { IfOk result (λ n. n ≤ length text.new) }
+    ensures { ReadsAtMost result text.new }
 {
     let mut file = fs::open(rt, name)?;
     let mut length = 0;

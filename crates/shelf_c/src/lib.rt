@@ -1,4 +1,4 @@
-//! The public calls for C and Rust: `rt staticlib shelf_c` makes an archive of them, and `include/shelf.h` declares them. On top of
+//! The public calls for C and Rust: `rt lib`, in this folder, makes an archive of them, and `include/shelf.h` declares them. On top of
 //! `shelf`, of which each is one call.
 //!
 //! No export has a precondition. Its contract is that of the public call, with the answer flattened into one struct by the
