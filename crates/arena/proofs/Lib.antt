@@ -6,6 +6,7 @@ pub mod Steps
 pub mod Unique
 pub mod Clipped
 pub mod Reach
+pub mod FromLocal
 pub mod Equivalent
 pub mod Formatted
 pub mod BlankArena

@@ -5,7 +5,7 @@ use mathlib.Core.Path.{◌≡◌, refl, sym, ◌∙◌, subst}
 use mathlib.Core.Bool.{true}
 use mathlib.Core.Logic.{⊎_elim}
 use native.Mathlib.Omega.{arith}
-use borrow.Author.Tests.{ltb-true, eqb-true}
+use borrow.Author.Tests.{eqb-true}
 use lib.Dec.{eqb}
 use Rattle.cases.proofs.Cases.{both}
 use Rattle.layout.specs.declared.Shape.{Shape}
@@ -15,8 +15,9 @@ use Rattle.layout.proofs.OffsetLaws.{cells_branch, cells_entry}
 use Rattle.arena.proofs.RefLaws.{ref_cell}
 use Rattle.audits.specs.Audits.{free_branch, free_entry, entry_right, branch_right, entries_right, branches_right}
 use Rattle.audits.proofs.AllLaws.{all_below}
-use Rattle.audits.proofs.StepLaws.{branch_free, branch_used, entry_free}
+use Rattle.audits.proofs.StepLaws.{branch_free, entry_free}
 use Rattle.audits.proofs.LinkLaws.{Followed, used_says}
+use Rattle.audits.proofs.DepthLaws.{live_deep}
 
 module _ (z : Shape) (σ : State) where
   -- A CELL THAT IS FREE
@@ -37,10 +38,6 @@ module _ (z : Shape) (σ : State) where
       let v = both _ _ w.1 in
       let u = both _ _ v.1 in
       (eqb-true _ _ w.0, eqb-true _ _ v.0, eqb-true _ _ u.0, eqb-true _ _ u.1)
-
-  -- A CELL IN USE
-  live_deep : (r : ℕ) → branch_right z σ r ≡ true → 0 < σ.count r → σ.mark r < z.depths
-  live_deep r t l = ltb-true _ _ (branch_used z σ r _ refl (σ.mark r) (λ e. omega arith) refl ∙ t)
 
 -- WHERE THE TESTS OF ALL ENTRIES PASS
 module _ (z : Shape) (σ : State) (entries : entries_right z σ ≡ true) where

@@ -18,12 +18,11 @@ use Rattle.layout.specs.Layout.{reference, kind_of, cell_of, cells_of}
 use Rattle.layout.specs.Columns.{State, refs}
 use Rattle.arena.specs.Sound.{Chain}
 use Rattle.arena.specs.Local.{Local}
-use Rattle.arena.proofs.RefLaws.{refs_some, refs_none, refs_of, names-refs, ref_cell, num_cells}
-use Rattle.lookup.specs.Lookup.{names_kind}
-use Rattle.lookup.proofs.FindLaws.{kind_says, kind_is}
+use Rattle.arena.proofs.RefLaws.{refs_none, refs_of, ref_cell, num_cells}
 use Rattle.audits.specs.Audits.{idle, walk, chain_right}
 use Rattle.audits.proofs.Shown.{FreeChain}
 use Rattle.audits.proofs.StepLaws.{few_free}
+use Rattle.audits.proofs.WalkLaws.{Step, Step-says, step_is, end_says, end_is}
 
 -- SUMS. Where one column is nowhere above another, its sum is not either, and equal sums have equal words.
 sum_below : (n : ℕ) (f g : ℕ → ℕ) → ((j : ℕ) → j < n → f j ≤ g j) → sum_to n f ≤ sum_to n g
@@ -72,43 +71,15 @@ module _ (z : Shape) (σ : State) (some : 0 < z.degree) where
         length_cells k l (λ r m. h r (omega arith)),
       )
 
-  -- A STEP OF A WALK, by what it says and by what it asks for
-  record Step (k n r : ℕ) : Type 0 where
-    pub cell : 0 < refs z r
-    pub kind : kind_of r ≡ k
-    pub unused : σ.count r ≡ 0
-    pub rest : walk z σ k n (σ.mark r) ≡ true
-
-  Step-says : (k n r : ℕ) → walk z σ k (suc n) r ≡ true → Step k n r
-  unfolding walk
-  Step-says k n r e =
-      let u = both (names_kind z k r) _ e in
-      let v = both (eqb (σ.count r) 0) _ u.1 in
-      let w = kind_says z k r u.0 in
-      record { cell = (names-refs z some r).0 w.0; kind = w.1; unused = eqb-true _ _ v.0; rest = v.1 }
-
-  step_is : (k n r : ℕ) → Step k n r → walk z σ k (suc n) r ≡ true
-  unfolding walk
-  step_is k n r s =
-      rw (kind_is z k r (refs_some z r s.cell) s.kind, eq-eqb (σ.count r) 0 s.unused) s.rest
-
-  end_says : (k r : ℕ) → walk z σ k 0 r ≡ true → r ≡ 0
-  unfolding walk
-  end_says k r e = eqb-true r 0 e
-
-  end_is : (k r : ℕ) → r ≡ 0 → walk z σ k 0 r ≡ true
-  unfolding walk
-  end_is k r e = eq-eqb r 0 e
-
   no_step : (k n r : ℕ) → walk z σ k 0 r ≡ true → walk z σ k (suc n) r ≡ true → ⊥
-  no_step k n r e h = omega (arith, (Step-says k n r h).cell, ap (refs z) (end_says k r e), refs_none z)
+  no_step k n r e h = omega (arith, (Step-says z σ some k n r h).cell, ap (refs z) (end_says z σ k r e), refs_none z)
 
   -- a walk has one number of steps
   one_length : (k n m r : ℕ) → walk z σ k n r ≡ true → walk z σ k m r ≡ true → n ≡ m
   one_length k zero zero r e h = refl
   one_length k zero (suc m) r e h = absurd (no_step k m r e h)
   one_length k (suc n) zero r e h = absurd (no_step k n r h e)
-  one_length k (suc n) (suc m) r e h = ap suc (one_length k n m (σ.mark r) (Step-says k n r e).rest (Step-says k m r h).rest)
+  one_length k (suc n) (suc m) r e h = ap suc (one_length k n m (σ.mark r) (Step-says z σ some k n r e).rest (Step-says z σ some k m r h).rest)
 
   -- WHAT A WALK MEETS: a chain of as many free cells, none of them twice
   unfoldable met : ℕ → ℕ → List ℕ
@@ -122,17 +93,17 @@ module _ (z : Shape) (σ : State) (some : 0 < z.degree) where
 
   met-Chain : (k n r : ℕ) → walk z σ k n r ≡ true → Chain σ.mark r (met n r)
   unfolding met
-  met-Chain k zero r e = end_says k r e
-  met-Chain k (suc n) r e = (refl, met-Chain k n (σ.mark r) (Step-says k n r e).rest)
+  met-Chain k zero r e = end_says z σ k r e
+  met-Chain k (suc n) r e = (refl, met-Chain k n (σ.mark r) (Step-says z σ some k n r e).rest)
 
   -- from each of them on the rest of the walk
-  met_from : (k n r c : ℕ) → walk z σ k n r ≡ true → 0 < among (met n r) c → (m : ℕ) × (m < n) × Step k m c
+  met_from : (k n r c : ℕ) → walk z σ k n r ≡ true → 0 < among (met n r) c → (m : ℕ) × (m < n) × Step z σ k m c
   unfolding met among
   met_from k zero r c e l = absurd (omega arith)
   met_from k (suc n) r c e l =
-      let s = Step-says k n r e in
+      let s = Step-says z σ some k n r e in
       ⊎_elim
-      (λ y. (n, omega arith, subst (Step k n) y s))
+      (λ y. (n, omega arith, subst (Step z σ k n) y s))
       (λ ne. let w = met_from k n (σ.mark r) c s.rest (omega (arith, ind_other c r ne)) in (w.0, omega arith, w.2))
       (eq? r c)
 
@@ -140,7 +111,7 @@ module _ (z : Shape) (σ : State) (some : 0 < z.degree) where
   unfolding met among
   met_once k zero r c e = omega arith
   met_once k (suc n) r c e =
-      let s = Step-says k n r e in
+      let s = Step-says z σ some k n r e in
       let o = met_once k n (σ.mark r) c s.rest in
       ⊎_elim
       (λ y.
@@ -149,7 +120,7 @@ module _ (z : Shape) (σ : State) (some : 0 < z.degree) where
       (λ nq.
       let w = met_from k n (σ.mark r) c s.rest (omega arith) in
       let d : walk z σ k (suc n) c ≡ true = ap (walk z σ k (suc n)) (sym y) ∙ e in
-      absurd (omega (arith, w.1, one_length k (suc n) (suc w.0) c d (step_is k w.0 c w.2))))
+      absurd (omega (arith, w.1, one_length k (suc n) (suc w.0) c d (step_is z σ k w.0 c w.2))))
       (eq? (among (met n (σ.mark r)) c) 0))
       (λ ne. omega (arith, ind_other c r ne))
       (eq? r c)
@@ -195,12 +166,12 @@ module _ (z : Shape) (σ : State) (some : 0 < z.degree) where
   Chain-walk : (k : ℕ) (l : List ℕ) (r : ℕ) → Chain σ.mark r l → AllOf k l
       → ((c : ℕ) → 0 < among l c → σ.count c ≡ 0) → walk z σ k (length l) r ≡ true
   unfolding among
-  Chain-walk k [] r e h g = end_is k r e
+  Chain-walk k [] r e h g = end_is z σ k r e
   Chain-walk k (c ∷ l) r e h g =
       let one : 0 < ind c c + among l c = omega (arith, ind_same c c refl) in
       let w = h c one in
       rw e.0
-      (step_is k (length l) c
+      (step_is z σ k (length l) c
       (record {
         cell = w.0;
         kind = w.1;

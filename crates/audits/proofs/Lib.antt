@@ -2,8 +2,12 @@ pub mod AllLaws
 pub mod Shown
 pub mod LiveLaws
 pub mod StepLaws
+pub mod OneMoreLaws
+pub mod FollowLaws
 pub mod LinkLaws
 pub mod EntryLaws
+pub mod WalkLaws
 pub mod FreeLaws
+pub mod DepthLaws
 pub mod CellLaws
 pub mod LookedLaws

@@ -1,32 +1,22 @@
 -- What the tests of an entry say: where it is in use nothing stands behind it and its chain length is 1, or an entry in use
 -- stands there whose chain is one shorter and which has its hash; and the search behind it for its hash and key finds nothing.
-use Prim.Native.Nat.{ℕ, suc, ◌-◌, ◌<◌}
+use Prim.Native.Nat.{ℕ, ◌<◌}
 use mathlib.Core.Path.{◌≡◌, refl, sym, ◌∙◌}
 use mathlib.Core.Bool.{true}
 use mathlib.Core.Logic.{◌⊎◌, inl, inr, ⊎_elim}
 use native.Mathlib.Omega.{arith}
-use lib.Dec.{ltb}
-use borrow.Author.Tests.{eq-eqb, lt-ltb, eqb-true, ltb-true}
-use Rattle.cases.proofs.Cases.{both, eq?}
+use borrow.Author.Tests.{eq-eqb, eqb-true}
+use Rattle.cases.proofs.Cases.{eq?}
 use Rattle.layout.specs.declared.Shape.{Shape}
 use Rattle.layout.specs.Columns.{State}
 use Rattle.lookup.specs.declared.Hit.{Hit}
 use Rattle.lookup.specs.declared.Hit.TheVariants.{At}
 use Rattle.lookup.specs.Lookup.{longest, hit_from}
-use Rattle.audits.specs.Audits.{is_live, one_more, linked_to, linked, entry_right, is_nowhere, key_right}
+use Rattle.audits.specs.Audits.{linked, entry_right, is_nowhere, key_right}
 use Rattle.audits.proofs.AllLaws.{false-true}
 use Rattle.audits.proofs.StepLaws.{linked_last, linked_next, entry_used, entry_free, key_used, free_value}
-
--- ONE MORE
-more_says : (m n : ℕ) → one_more m n ≡ true → m ≡ suc n
-unfolding one_more
-more_says m n e =
-    let w = both (ltb n m) _ e in
-    omega (arith, ltb-true n m w.0, eqb-true (m - n) 1 w.1)
-
-more_is : (m n : ℕ) → m ≡ suc n → one_more m n ≡ true
-unfolding one_more
-more_is m n e = rw (lt-ltb n m (omega arith)) (eq-eqb (m - n) 1 (omega arith))
+pub use Rattle.audits.proofs.FollowLaws.{Followed}
+use Rattle.audits.proofs.FollowLaws.{to_says, to_is}
 
 -- NOWHERE
 pub nowhere_not : (h : Hit) (q : ℕ) → is_nowhere h ≡ true → h ≡ At q → ⊥
@@ -34,42 +24,22 @@ unfolding is_nowhere
 nowhere_not h q e y = false-true (rw y at e)
 
 module _ (z : Shape) (σ : State) where
-  -- an entry in use stands behind r: its chain is one shorter, and it has r's hash
-  pub record Followed (r : ℕ) : Type 0 where
-    pub live : is_live z σ 1 (σ.kid r 0) ≡ true
-    pub shorter : σ.mark r ≡ suc (σ.mark (σ.kid r 0))
-    pub same_hash : σ.plain (σ.kid r 0) 0 ≡ σ.plain r 0
-
   -- LINKS
-  to_says : (r : ℕ) → linked_to z σ r (σ.kid r 0) ≡ true → Followed r
-  unfolding linked_to
-  to_says r e =
-      let n = σ.kid r 0 in
-      let w = both (is_live z σ 1 n) _ e in
-      let v = both (one_more (σ.mark r) (σ.mark n)) _ w.1 in
-      record { live = w.0; shorter = more_says _ _ v.0; same_hash = eqb-true _ _ v.1 }
-
-  to_is : (r : ℕ) → Followed r → linked_to z σ r (σ.kid r 0) ≡ true
-  unfolding linked_to
-  to_is r f =
-      rw (f.live, more_is (σ.mark r) (σ.mark (σ.kid r 0)) f.shorter)
-      (eq-eqb (σ.plain (σ.kid r 0) 0) (σ.plain r 0) f.same_hash)
-
-  linked_says : (r : ℕ) → linked z σ r ≡ true → ((σ.kid r 0 ≡ 0) × (σ.mark r ≡ 1)) ⊎ Followed r
+  linked_says : (r : ℕ) → linked z σ r ≡ true → ((σ.kid r 0 ≡ 0) × (σ.mark r ≡ 1)) ⊎ Followed z σ r
   linked_says r e =
       ⊎_elim
       (λ o. inl (o, eqb-true _ _ (linked_last z σ r _ refl _ o refl ∙ e)))
-      (λ ne. inr (to_says r (linked_next z σ r _ refl _ ne refl ∙ e)))
+      (λ ne. inr (to_says z σ r (linked_next z σ r _ refl _ ne refl ∙ e)))
       (eq? (σ.kid r 0) 0)
 
   pub linked_end : (r : ℕ) → σ.kid r 0 ≡ 0 → σ.mark r ≡ 1 → linked z σ r ≡ true
   linked_end r o m = sym (linked_last z σ r _ refl _ o refl) ∙ eq-eqb (σ.mark r) 1 m
 
-  pub linked_on : (r : ℕ) → (σ.kid r 0 ≡ 0 → ⊥) → Followed r → linked z σ r ≡ true
-  linked_on r ne f = sym (linked_next z σ r _ refl true ne (sym (to_is r f)))
+  pub linked_on : (r : ℕ) → (σ.kid r 0 ≡ 0 → ⊥) → Followed z σ r → linked z σ r ≡ true
+  linked_on r ne f = sym (linked_next z σ r _ refl true ne (sym (to_is z σ r f)))
 
   -- ENTRIES in use, and free ones
-  pub used_says : (r : ℕ) → 0 < σ.count r → entry_right z σ r ≡ true → ((σ.kid r 0 ≡ 0) × (σ.mark r ≡ 1)) ⊎ Followed r
+  pub used_says : (r : ℕ) → 0 < σ.count r → entry_right z σ r ≡ true → ((σ.kid r 0 ≡ 0) × (σ.mark r ≡ 1)) ⊎ Followed z σ r
   used_says r l e = linked_says r (entry_used z σ r _ refl _ (λ o. omega arith) refl ∙ e)
 
   pub used_is : (r : ℕ) → 0 < σ.count r → linked z σ r ≡ true → entry_right z σ r ≡ true

@@ -3,7 +3,7 @@
 -- with nothing behind it, and what stands behind it is put in later. So all the time the last new entry lives and holds nothing,
 -- and the front is in hand.
 use Prim.Native.Nat.{ℕ, zero, suc, ◌+◌, ◌-◌, ◌≤◌, ◌<◌}
-use mathlib.Core.Path.{◌≡◌, refl, sym, ap, ◌∙◌, subst}
+use mathlib.Core.Path.{◌≡◌, sym, ap, ◌∙◌, subst}
 use mathlib.Core.Bool.{true}
 use mathlib.Core.List.{[], List, ◌∷◌, ◌++◌}
 use mathlib.Core.Logic.{⊎_elim}
@@ -12,74 +12,33 @@ use native.Mathlib.Omega.{arith}
 use lib.ListN.{length, get_or, length-append}
 use Rattle.cases.proofs.Cases.{eq?}
 use Rattle.counts.specs.Counts.{ind}
-use Rattle.counts.proofs.CountLaws.{ind_le, place_other}
+use Rattle.counts.proofs.CountLaws.{place_other}
 use Rattle.trie.specs.Entry.{Entry}
 use Rattle.trie.specs.Trie.{Item, item}
 use Rattle.layout.specs.declared.Shape.{Shape}
-use Rattle.layout.specs.Layout.{reference, kind_of, cell_of, Lent}
-use Rattle.layout.specs.Columns.{State, refs, columns, set_kid}
+use Rattle.layout.specs.Layout.{reference, cell_of, Lent}
+use Rattle.layout.specs.Columns.{State, columns}
 use Rattle.layout.proofs.OffsetLaws.{names_low}
 use Rattle.arena.specs.Shows.{ShowsChain}
-use Rattle.arena.specs.Local.{Local, Grow, SameSlots}
+use Rattle.arena.specs.Local.{Local, Grow}
 use Rattle.arena.proofs.RefLaws.{refs_some}
 use Rattle.arena.proofs.LocalLaws.{rehand, refree, live_cell, live_some}
 use Rattle.arena.proofs.Frames.{Grow-refl, Grow-trans, slots_trans, chain_kept}
 use Rattle.arena.proofs.Steps.{Grow-put_in}
-use Rattle.lookup.specs.Lookup.{names_kind, entry_at}
+use Rattle.lookup.specs.Lookup.{names_kind}
 use Rattle.lookup.proofs.FindLaws.{kind_is}
 use Rattle.cells.specs.Frame.{Kept}
-use Rattle.cells.specs.Mirrors.{Wrote, wrote, share_words, put_in_words}
-use Rattle.cells.proofs.KeptLaws.{kept_trans, Kept-Lent, share_Kept, put_in_Kept}
+use Rattle.cells.specs.Mirrors.{Wrote, wrote, put_in_words}
+use Rattle.cells.proofs.KeptLaws.{kept_trans, Kept-Lent, put_in_Kept}
 use Rattle.cells.proofs.StepColumns.{share_none}
-use Rattle.cells.proofs.Meaning.{Grown, PutIn, share_means, PutIn-means}
+use Rattle.cells.proofs.Meaning.{PutIn, PutIn-means}
 use Rattle.cells.proofs.Made.{left, taking, Made, then_on, none_taken}
 use Rattle.trie.proofs.CopyLaws.{copies, copies_length}
 use Rattle.chains.specs.Chains.{entry_made, entry_copied, copied_on, closed, front_pushed, taken_from}
 use Rattle.chains.proofs.StepLaws.{standing, take_is}
+use Rattle.chains.proofs.Making.{chain_first, chain_entry, Open, Closed, last_ref, copy_is}
+use Rattle.chains.proofs.SharedLaws.{close_means, take_behind}
 use Rattle.chains.proofs.NewEntry.{Last, Fresh, Last-shows, entry_made_means, Fresh-ref}
-
--- CHAINS THAT ARE SHOWN
-module _ (σ : State) where
-  chain_first : (x : Item ℕ) (xs : List (Item ℕ)) (r : ℕ) → ShowsChain σ (x ∷ xs) r
-      → (0 < σ.count r) × (kind_of r ≡ 1) × (σ.mark r ≡ suc (length xs)) × ShowsChain σ xs (σ.kid r 0)
-  unfolding ShowsChain
-  chain_first x xs r h = (h.1, omega (arith, h.0), h.2, h.3)
-
-  chain_entry : (x : Item ℕ) (xs : List (Item ℕ)) (r : ℕ) → ShowsChain σ (x ∷ xs) r → entry_at σ r ≡ x.entry
-  unfolding ShowsChain
-  chain_entry x xs r h = λ i. record { hash = h.4 i; key = h.5 i; value = h.6 i }
-
-  -- the front of a chain, where there is one
-  chain_some : (xs : List (Item ℕ)) (r : ℕ) → ShowsChain σ xs r → (r ≡ 0 → ⊥)
-      → (0 < σ.count r) × (kind_of r ≡ 1) × (σ.mark r ≡ length xs)
-  chain_some [] r h nz = absurd (nz (unfold ShowsChain in h))
-  chain_some (x ∷ xs) r h nz = let C = chain_first x xs r h in (C.0, C.1, C.2)
-
-  chain_live : (xs : List (Item ℕ)) (r : ℕ) → ShowsChain σ xs r → 0 < length xs → 0 < σ.count r
-  chain_live [] r h some = absurd (omega arith)
-  chain_live (x ∷ xs) r h some = (chain_first x xs r h).0
-
--- WHILE THE CHAIN IS MADE, from what was in ρ: the words w, where j cells are taken, `first` is in hand and c is the last entry
-record Open (z : Shape) (ρ : State) (free : ℕ → List ℕ) (j first l : ℕ) (e : Entry) (c : ℕ) (w : List ℕ) : Type 0 where
-  pub lent : Lent z w
-  pub local : Local z (columns z w) (λ r. ind r first) (left (taking 1 j) free)
-  pub grow : Grow ρ (columns z w)
-  pub last : Last ρ (columns z w) l e c
-
--- WHEN IT IS MADE: xs stand behind c, and else what lived in w keeps its words
-record Closed (z : Shape) (free : ℕ → List ℕ) (m first c : ℕ) (xs : List (Item ℕ)) (w : List ℕ) (s : Wrote) : Type 0 where
-  pub next : ℕ
-  pub at_is : s.at ≡ first
-  pub kept : Kept z w s.words
-  pub local : Local z (columns z s.words) (λ r. ind r first) (left (taking 1 m) free)
-  pub grow : Grow (set_kid (columns z w) c 0 next) (columns z s.words)
-  pub slots : SameSlots (columns z w) (columns z s.words)
-  pub shows : ShowsChain (columns z s.words) xs next
-
--- the last entry holds a reference, as every cell does
-last_ref : {z : Shape} {ρ : State} {free : ℕ → List ℕ} {j first l : ℕ} {e : Entry} {c : ℕ} {w : List ℕ}
-    → Open z ρ free j first l e c w → 0 < refs z c
-last_ref {c = c} O = live_cell O.local c O.last.live
 
 -- what lives in ρ lives in what ρ grew to, so what does not live there did not live in ρ
 new_before : {ρ σ : State} (c : ℕ) → Grow ρ σ → σ.count c ≡ 0 → ρ.count c ≡ 0
@@ -146,50 +105,7 @@ module _ {z : Shape} {ρ : State} {free : ℕ → List ℕ} {j first l : ℕ} {e
         shows = Last-shows i C.next xs linked_Last at len C.grow C.shows;
       }
 
--- THE REST IS SHARED
-closed_is : (z : Shape) (first q : ℕ) (s : Wrote) → (s.at ≡ 0 → ⊥)
-    → closed z first q s ≡ wrote first (put_in_words z (share_words z s.words q) s.at 0 q)
-unfolding closed
-closed_is z first q s nz = then_on s _ nz
-
-close_means : {z : Shape} {ρ : State} {free : ℕ → List ℕ} {j first l : ℕ} {e : Entry} {c : ℕ} {w : List ℕ}
-    (q : ℕ) (ys : List (Item ℕ)) → Open z ρ free j first l e c w → ShowsChain ρ ys q → length ys ≡ l
-    → Closed z free j first c ys w (closed z first q (wrote c w))
-close_means {z} {ρ} {free} {j} {first} {l} {e} {c} {w} q ys O h len =
-    let L = O.last in
-    let σ = columns z w in
-    let b = share_words z w q in
-    let some = chain_some σ ys q (chain_kept O.grow ys q h) in
-    let S : Grown z σ (columns z b) (λ r. ind r q + ind r first) (left (taking 1 j) free)
-    = share_means q O.lent (λ nz. (some nz).0) (omega (arith, ind_le q first)) O.local in
-    let g = S.grow in
-    let shared = share_Kept z w q in
-    let P : PutIn z c 0 q (columns z b) (columns z (put_in_words z b c 0 q)) (λ r. ind r first) (left (taking 1 j) free)
-    = PutIn-means (λ r. ind r first) c 0 q (Kept-Lent shared O.lent) (last_ref O) (g.live c L.live)
-    (ap (λ (f : ℕ → ℕ). f 0) (g.kid_eq c L.live) ∙ L.bare)
-    (λ nz. (
-      λ x y. absurd (omega (arith, L.kind)),
-      λ x. ((some nz).1, omega (arith, g.mark_eq c L.live, L.mark_is, g.mark_eq q (some nz).0, (some nz).2)),
-    ))
-    S.local in
-    rw (closed_is z first q (wrote c w) (live_some O.local c L.live))
-    (record {
-      next = q;
-      at_is = refl;
-      kept = kept_trans shared (put_in_Kept z b c 0 q (last_ref O));
-      local = P.local;
-      grow = P.over g;
-      slots = slots_trans S.slots P.slots;
-      shows = chain_kept (P.grow (Grow-trans O.grow g) L.new) ys q h;
-    })
-
 -- COPIES
-copy_is : (z : Shape) (n c r : ℕ) (w : List ℕ) → names_kind z 1 r ≡ true → ((entry_copied z w r).at ≡ 0 → ⊥)
-    → copied_on z (suc n) c r w
-    ≡ copied_on z n (entry_copied z w r).at ((columns z w).kid r 0) (put_in_words z (entry_copied z w r).words c 0 (entry_copied z w r).at)
-unfolding copied_on
-copy_is z n c r w y nz = rw y (then_on (entry_copied z w r) _ nz)
-
 -- the copy of an entry of a chain, with one entry fewer behind it
 copy_Fresh : {z : Shape} {a : List ℕ} {H : ℕ → ℕ} (free : ℕ → List ℕ) (j l r : ℕ) (x : Item ℕ) (xs : List (Item ℕ))
     → Lent z a → j < length (free 1) → Local z (columns z a) H (left (taking 1 j) free)
@@ -306,24 +222,6 @@ push_means {z} {a} {free} lent I e l n r q es more ys f h len rest shown long so
 pub take_none : (z : Shape) (a : List ℕ) (r : ℕ) → taken_from z 0 r 0 a ≡ wrote 0 a
 unfolding taken_from
 take_none z a r = rw (share_none z a 0 (names_low z 0 (omega arith)))
-
--- nothing stood before the removed entry: what stands behind it is the chain
-take_behind : {z : Shape} {a : List ℕ} {free : ℕ → List ℕ} → Lent z a → Local z (columns z a) (λ r. 0) free
-    → (r q : ℕ) (ys : List (Item ℕ)) → ShowsChain (columns z a) ys q → 0 < length ys
-    → Made z a free (taking 1 0) (taken_from z 0 r q a) × ShowsChain (columns z (taken_from z 0 r q a).words) ys (taken_from z 0 r q a).at
-unfolding taken_from
-take_behind {z} {a} {free} lent I r q ys shown some =
-    let live = chain_live (columns z a) ys q shown some in
-    let S = share_means q lent (λ nz. live) (omega arith) I in (
-      record {
-        some = live_some I q live;
-        kept = share_Kept z a q;
-        local = refree (none_taken free 1) (rehand (λ x. ind x q) (λ x nz. omega arith) S.local);
-        grow = S.grow;
-        slots = S.slots;
-      },
-      chain_kept S.grow ys q shown,
-    )
 
 -- what is left of a chain of which es stood before the removed entry, and ys behind it: copies of es, and ys
 pub take_means : {z : Shape} {a : List ℕ} {free : ℕ → List ℕ} → Lent z a → Local z (columns z a) (λ r. 0) free
