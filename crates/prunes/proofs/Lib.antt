@@ -1,9 +1,9 @@
-mod OneEntryLaws
-mod OutLaws
+pub mod OneEntryLaws
+pub mod OutLaws
 pub mod RowLaws
-mod SettledLaws
+pub mod SettledLaws
 pub mod SingleLaws
-mod SingleLeft
+pub mod SingleLeft
 pub mod StepMeaning
 pub mod KeptLaws
 pub mod LeftLaws

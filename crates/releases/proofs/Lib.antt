@@ -1,5 +1,5 @@
 pub mod CaseLaws
-mod ChildLaws
+pub mod ChildLaws
 pub mod KeptLaws
 pub mod Meaning
 pub mod OnceLaws

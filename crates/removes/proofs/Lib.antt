@@ -1,7 +1,7 @@
 pub mod CaseLaws
-mod CutLaws
+pub mod CutLaws
 pub mod InsideLaws
-mod LeftLaws
+pub mod LeftLaws
 pub mod SlotLaws
 pub mod NumberLaws
 pub mod MapLaws
