@@ -34,6 +34,7 @@ use Rattle.prunes.specs.declared.Left.{Left as Rest}
 use Rattle.prunes.specs.declared.Left.TheVariants.{Nothing, Single, More}
 use Rattle.prunes.specs.Prunes.{left_of_chain, left_of_cut, left_of_settled, left_from}
 use Rattle.prunes.proofs.SingleLaws.{few_kids, lone_kids, only_is, few_put, lone_is, empty_is}
+use Rattle.prunes.proofs.SingleLeft.{single_kept}
 use Rattle.prunes.proofs.StepMeaning.{left_on}
 
 -- what is left where a node is left, with so many branches on the path
@@ -92,10 +93,6 @@ module _ {z : Shape} {σ : State} {t r : ℕ} {ks : Kids ℕ} (C : Celled z σ) 
       → left_of_settled z σ h t r Single ≡ left_of 1 (compress x (put (segment z.bits t h) (leaf (y ∷ [])) ks))
   unfolding left_of_settled is_single
   Single-left y = rw (only_is S) (single_kept (few_kids ks) ∙ kept_left (leaf (y ∷ [])) 1)
-    where
-      single_kept : (few : Bool) → cond few Single (More 1) ≡ cond (cond few true false) Single (More 1)
-      single_kept true = refl
-      single_kept false = refl
 
   more_left : (m : Node ℕ) (c : ℕ) → is_single m ≡ false → c ≤ 64
       → left_of_settled z σ h t r (More c) ≡ left_of (suc c) (compress x (put (segment z.bits t h) m ks))

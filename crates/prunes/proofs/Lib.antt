@@ -1,5 +1,9 @@
+pub mod OneEntryLaws
+pub mod OutLaws
 pub mod RowLaws
+pub mod SettledLaws
 pub mod SingleLaws
+pub mod SingleLeft
 pub mod StepMeaning
 pub mod KeptLaws
 pub mod LeftLaws

@@ -34,7 +34,8 @@ use Rattle.grafts.proofs.Meaning.{Names, Grafted, leaf_Grafted, leaf_shown}
 use Rattle.grafts.proofs.SeenLaws.{Celled, words_Celled, branch_named, branch-Seen, Seen-kept, onward_found}
 use Rattle.prunes.specs.Prunes.{below_settled, child_cut, is_emptied, prune_from}
 use Rattle.prunes.proofs.LeftLaws.{leaf_named}
-use Rattle.prunes.proofs.StepMeaning.{left_on, settle_means, settled_room, settled-Names, cut_means}
+use Rattle.prunes.proofs.SettledLaws.{settle_means, cut_means}
+use Rattle.prunes.proofs.StepMeaning.{left_on, settled_room, settled-Names}
 
 -- ONE STEP DOWN
 module _ (z : Shape) (h x n t r : ℕ) (a : List ℕ) where

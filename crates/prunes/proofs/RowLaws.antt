@@ -1,10 +1,9 @@
 -- The children of a branch with one taken out, as a row and as a bitmap. The place of a segment is how many children stand at
 -- lower ones; those behind it go down by one place.
-use Prim.Native.Nat.{ℕ, suc, ◌+◌, ◌-◌, ◌*◌, ◌^◌, ◌≤◌, ◌<◌}
+use Prim.Native.Nat.{ℕ, suc, ◌+◌, ◌-◌, ◌*◌, ◌^◌, ◌<◌}
 use mathlib.Core.Path.{◌≡◌, sym, ◌∙◌, fun_ext}
 use mathlib.Core.Logic.{⊎_elim}
 use native.Mathlib.Omega.{arith}
-use borrow.Author.Tests.{lt-ltb, le-ltb}
 use Rattle.cases.proofs.Cases.{lt?, Tri, is_less, is_equal, is_more, tri}
 use Rattle.sparse_array.specs.Bitmap.{bit, below}
 use Rattle.layout.specs.Columns.{State}
@@ -15,17 +14,9 @@ use Rattle.arena.specs.Shows.{bitmap, behind, Shows, ShowsRow}
 use Rattle.lookup.proofs.RowLaws.{bit_found}
 use Rattle.grafts.proofs.RowLaws.{before, before_here, before_more, before_is}
 use Rattle.prunes.specs.Prunes.{row_out}
+pub use Rattle.prunes.proofs.OutLaws.{out_before, out_behind}
 
 -- A ROW WITH ONE WORD TAKEN OUT
-module _ (f : ℕ → ℕ) (p k : ℕ) where
-  pub out_before : k < p → row_out f p k ≡ f k
-  unfolding row_out
-  out_before l = rw (lt-ltb k p l)
-
-  pub out_behind : p ≤ k → row_out f p k ≡ f (suc k)
-  unfolding row_out
-  out_behind l = rw (le-ltb k p l)
-
 -- without its first word
 out_first : (f : ℕ → ℕ) → row_out f 0 ≡ behind f
 out_first f = fun_ext (λ k. out_behind f 0 k (omega arith))

@@ -15,12 +15,12 @@ use Rattle.layout.specs.Columns.{State}
 use Rattle.trie.specs.Trie.{Item, Node, leaf, branch, Kids, none, kid, found, child, put, take_out, is_empty, is_single, compress}
 use Rattle.trie.specs.Canon.{Some}
 use Rattle.trie.proofs.KidsLaws.{found-missing, same_node, child_hit, child_only, put_hit, put_less, put_more, Some-put}
-use Rattle.arena.specs.Shows.{bitmap, ShowsChain, Shows, ShowsRow}
+use Rattle.arena.specs.Shows.{bitmap, Shows, ShowsRow}
 use Rattle.arena.proofs.Frames.{shown_some}
-use Rattle.lookup.specs.Lookup.{names_kind}
 use Rattle.grafts.specs.Grafts.{kid_row}
-use Rattle.grafts.proofs.SeenLaws.{Seen, Celled, branch_named, single_named, none_entry}
+use Rattle.grafts.proofs.SeenLaws.{Seen, Celled, none_entry}
 use Rattle.prunes.specs.Prunes.{is_a_single, is_the_only, is_lone, out_at}
+use Rattle.prunes.proofs.OneEntryLaws.{single_is}
 use Rattle.prunes.proofs.RowLaws.{row_out_lem}
 
 -- no second child; and a single as the only one
@@ -113,27 +113,11 @@ module _ (σ : State) (t : ℕ) (f : ℕ → ℕ) where
 
 -- SINGLES
 module _ {z : Shape} {σ : State} (C : Celled z σ) where
-  no_single : (r : ℕ) → (σ.mark r ≡ 1 → ⊥) → is_a_single z σ r ≡ false
-  unfolding is_a_single
-  no_single r ne = rw (ne_eqb (σ.mark r) 1 ne) (never (names_kind z 1 r))
-    where
-      never : (b : Bool) → cond b false false ≡ false
-      never true = refl
-      never false = refl
-
-  pub single_is : (n : Node ℕ) (t r : ℕ) → Shows σ n t r → is_a_single z σ r ≡ is_single n
-  unfolding is_single
-  single_is (leaf []) t r h = absurd (unfold Shows in h)
-  single_is (leaf (x ∷ [])) t r h =
-      unfold is_a_single in (rw (single_named C x t r h).1 (eq-eqb (σ.mark r) 1 (unfold Shows ShowsChain in h.2)))
-  single_is (leaf (x ∷ (y ∷ xs))) t r h = no_single r (λ e. unfold Shows ShowsChain in (omega (arith, h.2)))
-  single_is (branch c ks) t r h = unfold is_a_single in (rw (branch_named C c ks t r h).1)
-
   lone_row : (ks : Kids ℕ) (t : ℕ) (f : ℕ → ℕ) → ShowsRow σ ks t f
       → cond (few_kids ks) (is_a_single z σ (f 0)) false ≡ lone_kids ks
   unfolding Shows few_kids lone_kids
   lone_row none t f r = unfold is_a_single in (rw (r 0, none_entry z))
-  lone_row (kid i m none) t f r = single_is m (suc t) (f 0) r.0
+  lone_row (kid i m none) t f r = single_is C m (suc t) (f 0) r.0
   lone_row (kid i m (kid j n ks)) t f r = refl
 
 -- BY THE CHILDREN THAT ARE SEEN

@@ -1,7 +1,7 @@
 -- The steps of a removal's path, as their mirrors have them.
-use Prim.Native.Nat.{ℕ, zero, suc, ◌+◌, ◌-◌, ◌*◌, ◌^◌, ◌≤◌, ◌<◌}
+use Prim.Native.Nat.{ℕ, zero, suc, ◌-◌, ◌*◌, ◌^◌, ◌≤◌}
 use mathlib.Core.Path.{◌≡◌, refl, sym, ap, ◌∙◌, ap₂}
-use mathlib.Core.Bool.{Bool, true, false, cond}
+use mathlib.Core.Bool.{Bool, true, false}
 use mathlib.Core.List.{List}
 use native.Mathlib.Omega.{arith}
 use lib.Bits.{bit_and}
@@ -9,7 +9,7 @@ use lib.Dec.{eqb}
 use borrow.Author.Tests.{eq-eqb, ne_eqb}
 use Rattle.segments.specs.Segments.{segment}
 use Rattle.sparse_array.specs.Bitmap.{bit, below}
-use Rattle.sparse_array.proofs.Bitmap.{shl_one, and_bit}
+use Rattle.sparse_array.proofs.Bitmap.{and_bit}
 use Rattle.layout.specs.declared.Shape.{Shape}
 use Rattle.layout.specs.Columns.{State, word, columns}
 use Rattle.lookup.specs.Lookup.{names_kind}

@@ -104,7 +104,7 @@ module _ {z : Shape} {a : List ℕ} {free : ℕ → List ℕ} {ks : Kids ℕ} (b
   test : is_alone z r s ≡ lone_kids (put there m ks)
   test = put_is S there old q (words_Celled (Kept-Lent G.0.kept l)) m s.at G.1
 
-  settle_lone : lone_kids (put there m ks) ≡ true
+  pub settle_lone : lone_kids (put there m ks) ≡ true
       → Grafted z a free (left_on z (suc n) t h (settled z b h t m ks)) (settled z b h t m ks) t (below_settled z h t r s)
   settle_lone e =
       let (y, is, press) = pressed_found (b t) there (put there m ks) m e (child-put there m ks) in
@@ -113,7 +113,7 @@ module _ {z : Shape} {a : List ℕ} {free : ℕ → List ℕ} {ks : Kids ℕ} (b
         leaf_at (columns z s.words) y (suc t) t s.at (rw is at G.1),
       )
 
-  settle_put : lone_kids (put there m ks) ≡ false → t < z.depths
+  pub settle_put : lone_kids (put there m ks) ≡ false → t < z.depths
       → left_on z (suc n) t h (settled z b h t m ks) ≤ length (free 0)
       → Names b t free (left_on z (suc n) t h (settled z b h t m ks))
       → Grafted z a free (left_on z (suc n) t h (settled z b h t m ks)) (settled z b h t m ks) t (below_settled z h t r s)
@@ -122,17 +122,6 @@ module _ {z : Shape} {a : List ℕ} {free : ℕ → List ℕ} {ks : Kids ℕ} (b
       let more = more_left z b h n t m ks f in
       rw (puts z h t r s G.0.some (test ∙ f), more, not_pressed (b t) (put there m ks) f)
       (put-Grafted m h t r c (b t) s l G S deep (omega arith) (Names-here b t free c (rw more at names)))
-
-pub settle_means : {z : Shape} {a : List ℕ} {free : ℕ → List ℕ} {ks : Kids ℕ} (b : ℕ → ℕ) (m old : Node ℕ) (h n t r : ℕ) (s : Wrote)
-    → Lent z a → Grafted z a free (left_on z n (suc t) h m) m (suc t) s
-    → Seen z (columns z s.words) t r ks → child (segment z.bits t h) ks ≡ found old → t < z.depths
-    → left_on z (suc n) t h (settled z b h t m ks) ≤ length (free 0)
-    → Names b t free (left_on z (suc n) t h (settled z b h t m ks))
-    → Grafted z a free (left_on z (suc n) t h (settled z b h t m ks)) (settled z b h t m ks) t (below_settled z h t r s)
-settle_means {z} {ks = ks} b m old h n t r s l G S q deep room names =
-    split (lone_kids (put (segment z.bits t h) m ks))
-    (λ e. settle_lone b m old h n t r s l G S q e)
-    (λ f. settle_put b m old h n t r s l G S q f deep room names)
 
 -- THE CHILD TAKEN OUT
 module _ {z : Shape} {a : List ℕ} {free : ℕ → List ℕ} {ks : Kids ℕ} (b : ℕ → ℕ) (old : Node ℕ) (h n t r : ℕ)
@@ -180,7 +169,7 @@ module _ {z : Shape} {a : List ℕ} {free : ℕ → List ℕ} {ks : Kids ℕ} (b
       (shows_kept B.grow (leaf (y ∷ [])) t x (leaf_at (columns z a) y (suc t) t x shown)) in
       (made_after (share_Kept z a x) B.grow B.slots M, T)
 
-  cut_lone : lone_kids rest ≡ true → Grafted z a free (left_on z (suc n) t h (cut z b h t ks)) (cut z b h t ks) t (child_cut z h t r a)
+  pub cut_lone : lone_kids rest ≡ true → Grafted z a free (left_on z (suc n) t h (cut z b h t ks)) (cut z b h t ks) t (child_cut z h t r a)
   cut_lone e =
       let (i, y, is) = lone_pressed rest e in
       rw (cuts_lone e, is, pressed_lone (b t) i y, along-leaf (segment z.bits) (λ c. 1) (suc n) t h (y ∷ []))
@@ -208,21 +197,10 @@ module _ {z : Shape} {a : List ℕ} {free : ℕ → List ℕ} {ks : Kids ℕ} (b
       ap (left_on z (suc n) t h) (not_pressed (b t) rest f)
       ∙ along-missing (segment z.bits) (λ c. 1) n t h (b t) rest (child_take here ks S.asc)
 
-  cut_more : lone_kids rest ≡ false → t < z.depths
+  pub cut_more : lone_kids rest ≡ false → t < z.depths
       → left_on z (suc n) t h (cut z b h t ks) ≤ length (free 0)
       → Names b t free (left_on z (suc n) t h (cut z b h t ks))
       → Grafted z a free (left_on z (suc n) t h (cut z b h t ks)) (cut z b h t ks) t (child_cut z h t r a)
   cut_more f deep room names =
       rw (cuts f, one_left f, not_pressed (b t) rest f)
       (cut_branch (b t) deep (omega (arith, one_left f)) (Names-here b t free 0 (rw (one_left f) at names)))
-
-pub cut_means : {z : Shape} {a : List ℕ} {free : ℕ → List ℕ} {ks : Kids ℕ} (b : ℕ → ℕ) (old : Node ℕ) (h n t r : ℕ)
-    → Lent z a → Local z (columns z a) (λ q. 0) free
-    → Seen z (columns z a) t r ks → child (segment z.bits t h) ks ≡ found old → t < z.depths
-    → left_on z (suc n) t h (cut z b h t ks) ≤ length (free 0)
-    → Names b t free (left_on z (suc n) t h (cut z b h t ks))
-    → Grafted z a free (left_on z (suc n) t h (cut z b h t ks)) (cut z b h t ks) t (child_cut z h t r a)
-cut_means {z} {ks = ks} b old h n t r l I S q deep room names =
-    split (lone_kids (take_out (segment z.bits t h) ks))
-    (λ e. cut_lone b old h n t r l I S q e)
-    (λ f. cut_more b old h n t r l I S q f deep room names)

@@ -7,7 +7,7 @@ use native.Mathlib.Omega.{arith}
 use borrow.Author.Tests.{eqb-true, eq-eqb, ne_eqb, lt-ltb, le-ltb}
 use Rattle.cases.proofs.Cases.{both}
 use Rattle.layout.specs.declared.Shape.{Shape}
-use Rattle.layout.specs.Layout.{kind_of, names}
+use Rattle.layout.specs.Layout.{kind_of}
 use Rattle.layout.specs.Columns.{State, word, refs, columns}
 use Rattle.layout.proofs.OffsetLaws.{names_low}
 use Rattle.layout.proofs.ColumnLaws.{kids_branch, kids_entry}

@@ -1,80 +1,35 @@
 -- What a release means on an arena in the local form, with the reference in hand: afterwards it is in hand no more, cells only
 -- went, and what still lives has its words. A chain is let go entry by entry, each of which is free before the next is looked at;
 -- a branch is in hand while its children are let go, so that it stays counted once, and it is free when it holds none any more.
-use Prim.Native.Nat.{ℕ, zero, suc, ◌+◌, ◌≤◌, ◌<◌}
+use Prim.Native.Nat.{ℕ, zero, suc, ◌+◌, ◌≤◌}
 use mathlib.Core.Path.{◌≡◌, refl, sym, ap, ◌∙◌}
-use mathlib.Core.Bool.{true}
 use mathlib.Core.List.{List}
 use mathlib.Core.Logic.{⊎_elim}
 use native.Mathlib.Omega.{arith}
 use lib.ListN.{length}
 use Rattle.cases.proofs.Cases.{eq?, lt?}
-use Rattle.counts.specs.Counts.{upd, ind, among}
-use Rattle.counts.proofs.CountLaws.{upd_same, upd_other, ind_same, ind_le, ind_pos, sum_mono, place_same, length-among}
+use Rattle.counts.specs.Counts.{ind, among}
+use Rattle.counts.proofs.CountLaws.{ind_same, ind_le, ind_pos, sum_mono, length-among}
 use Rattle.layout.specs.declared.Shape.{Shape}
 use Rattle.layout.specs.Layout.{kind_of, Lent}
-use Rattle.layout.specs.Columns.{State, refs, columns, set_kid}
+use Rattle.layout.specs.Columns.{State, refs, columns}
 use Rattle.arena.specs.Sound.{top}
 use Rattle.arena.specs.Local.{Local, Shrink, SameSlots}
 use Rattle.arena.specs.Steps.{on_chain}
-use Rattle.arena.proofs.RefLaws.{refs_none, refs_some, refs_inside, refs_branch, refs_entry, num-entries}
-use Rattle.arena.proofs.LocalLaws.{rehand, in_hand, some_used, occ_mono}
-use Rattle.arena.proofs.Frames.{slots_refl, slots_trans, Shrink-refl, Shrink-trans, Shrink-close, Shrink-weaken}
-use Rattle.arena.proofs.Steps.{unshare_none, on_chain_at}
-use Rattle.lookup.specs.Lookup.{names_kind}
-use Rattle.lookup.proofs.FindLaws.{kind_is, kind_other}
+use Rattle.arena.proofs.RefLaws.{refs_none, refs_some, refs_inside, refs_entry, num-entries}
+use Rattle.arena.proofs.LocalLaws.{rehand, in_hand, some_used}
+use Rattle.arena.proofs.Frames.{slots_refl, slots_trans, Shrink-refl, Shrink-trans, Shrink-close}
+use Rattle.arena.proofs.Steps.{on_chain_at}
+use Rattle.lookup.proofs.FindLaws.{kind_other}
 use Rattle.cells.specs.Mirrors.{take_out_words, give_back_words}
 use Rattle.cells.proofs.KeptLaws.{Kept-Lent, kept_trans, take_out_Kept, give_back_Kept}
-use Rattle.cells.proofs.StepColumns.{Lent-degree, take_out_columns}
-use Rattle.cells.proofs.Meaning.{unshare_means, take_out_means, give_back_means}
-use Rattle.releases.specs.Releases.{less_words, chain_from, row_from, release_from}
-use Rattle.releases.proofs.CaseLaws.{none_kind, last_is, last_not, less_shared, chain_ends, chain_less, chain_last, place_is, place_none, release_entry, release_none, release_less, release_last}
-use Rattle.releases.proofs.KeptLaws.{release_Kept}
-
--- cells only went, and what was in hand beside the reference still is
-pub record Released (z : Shape) (a : List ℕ) (H : ℕ → ℕ) (b : List ℕ) : Type 0 where
-  pub free : ℕ → List ℕ
-  pub local : Local z (columns z b) H free
-  pub shrink : Shrink 0 (columns z a) (columns z b)
-  pub slots : SameSlots (columns z a) (columns z b)
-
--- nothing is done where nothing is in hand, and a cell that more words name is named by one fewer
-module _ {z : Shape} {a : List ℕ} {free : ℕ → List ℕ} (r : ℕ) (H : ℕ → ℕ) (l : Lent z a)
-    (I : Local z (columns z a) (λ x. ind x r + H x) free) where
-  none_Released : r ≡ 0 → Released z a H a
-  none_Released e =
-      record { free = free; local = unshare_none H r e I; shrink = Shrink-refl 0 (columns z a); slots = slots_refl (columns z a) }
-
-  less_Released : (r ≡ 0 → ⊥) → ((columns z a).count r ≡ 1 → ⊥) → Released z a H (less_words z a r)
-  less_Released nz more =
-      let two : 2 ≤ (columns z a).count r = omega (arith, (in_hand H r nz I).0) in
-      let U = unshare_means H 0 r l two I in
-      rw (less_shared z a r two) (record { free = free; local = U.local; shrink = U.shrink; slots = U.slots })
-
-  hand_kind : (k : ℕ) → (r ≡ 0 → ⊥) → kind_of r ≡ k → names_kind z k r ≡ true
-  hand_kind k nz e = kind_is z k r (refs_some z r (in_hand H r nz I).1) e
-
--- A REFERENCE TAKEN OUT of a cell, and what is left there
-module _ {z : Shape} {a : List ℕ} (c k : ℕ) (l : Lent z a) (lk : k < refs z c) where
-  abbrev out : List ℕ
-  out = take_out_words z a c k
-
-  is_out : columns z out ≡ set_kid (columns z a) c k 0
-  is_out = take_out_columns z a c k l lk
-
-  count-out : (r : ℕ) → (columns z out).count r ≡ (columns z a).count r
-  count-out r = ap (λ (s : State). s.count r) is_out
-
-  mark-out : (r : ℕ) → (columns z out).mark r ≡ (columns z a).mark r
-  mark-out r = ap (λ (s : State). s.mark r) is_out
-
-  row_out : (columns z out).kid c ≡ upd ((columns z a).kid c) k 0
-  row_out = ap (λ (s : State). s.kid c) is_out ∙ place_same (columns z a).kid c k 0 c refl
-
-  bare_out : (j : ℕ) → ((j ≡ k → ⊥) → (columns z a).kid c j ≡ 0) → (columns z out).kid c j ≡ 0
-  bare_out j rest =
-      ap (λ (f : ℕ → ℕ). f j) row_out
-      ∙ ⊎_elim (λ e. upd_same ((columns z a).kid c) k 0 j e) (λ ne. upd_other ((columns z a).kid c) k 0 j ne ∙ rest ne) (eq? j k)
+use Rattle.cells.proofs.StepColumns.{Lent-degree}
+use Rattle.cells.proofs.Meaning.{take_out_means, give_back_means}
+use Rattle.releases.specs.Releases.{chain_from, row_from, release_from}
+use Rattle.releases.proofs.CaseLaws.{none_kind, last_is, last_not, chain_ends, chain_less, chain_last, place_is, place_none, release_entry, release_none, release_less, release_last}
+pub use Rattle.releases.proofs.ReleasedLaws.{Released}
+use Rattle.releases.proofs.ReleasedLaws.{none_Released, less_Released, hand_kind, count-out, bare_out, Lets, Bared}
+use Rattle.releases.proofs.ChildLaws.{wide, turn}
 
 -- CHAINS
 -- one entry that the hand alone names: its next is in hand afterwards, and one entry fewer is in use
@@ -139,69 +94,9 @@ chain_means {z} {a} (suc n) r H l I od few =
     (eq? r 0)
 
 -- BRANCHES
--- what is known of a release that starts at depth t, with n depths left
-abbrev Lets : Shape → ℕ → ℕ → Type 0
-Lets z n t =
-    (a : List ℕ) (free : ℕ → List ℕ) (r : ℕ) (H : ℕ → ℕ) → Lent z a → Local z (columns z a) (λ x. ind x r + H x) free
-    → ((r ≡ 0 → ⊥) → kind_of r ≡ 0 → (columns z a).mark r ≡ t) → Released z a H (release_from z n t r a)
-
--- the branch c in hand, whose first m children are let go
-record Bared (z : Shape) (a : List ℕ) (H : ℕ → ℕ) (c m : ℕ) (b : List ℕ) : Type 0 where
-  pub free : ℕ → List ℕ
-  pub lent : Lent z b
-  pub local : Local z (columns z b) (λ x. ind x c + H x) free
-  pub shrink : Shrink c (columns z a) (columns z b)
-  pub slots : SameSlots (columns z a) (columns z b)
-  pub one : (columns z b).count c ≡ 1
-  pub mark_eq : (columns z b).mark c ≡ (columns z a).mark c
-  pub bare : (k : ℕ) → k < m → (columns z b).kid c k ≡ 0
-
 module _ {z : Shape} {a : List ℕ} {free : ℕ → List ℕ} (n t c : ℕ) (H : ℕ → ℕ) (lets : Lets z n (suc t)) (l : Lent z a)
     (I : Local z (columns z a) (λ x. ind x c + H x) free) (nz : c ≡ 0 → ⊥) (ev : kind_of c ≡ 0) (at : (columns z a).mark c ≡ t)
     (one : (columns z a).count c ≡ 1) where
-  some : 0 < refs z c
-  some = (in_hand H c nz I).1
-
-  wide : refs z c ≡ z.degree
-  wide = refs_branch z c some ev
-
-  turn : (m : ℕ) (b : List ℕ) → m < z.degree → Bared z a H c m b
-      → Bared z a H c (suc m) (release_from z n (suc t) ((columns z b).kid c m) (take_out_words z b c m))
-  turn m b lm B =
-      let lk : m < refs z c = omega (arith, wide) in
-      let w = (columns z b).kid c m in
-      let u = take_out_words z b c m in
-      let v = release_from z n (suc t) w u in
-      let O = take_out_means c m B.lent lk B.local in
-      let lent : Lent z u = Kept-Lent (take_out_Kept z b c m lk) B.lent in
-      let R = lets u B.free w (λ x. ind x c + H x) lent O.local
-      (λ n0 e. mark-out c m B.lent lk w ∙ (B.local.below c m n0).0 ev e ∙ ap suc (B.mark_eq ∙ at)) in
-      let one_left : (columns z v).count c ≡ 1
-      = omega (
-        arith,
-        R.local.exact c nz,
-        O.local.exact c nz,
-        count-out c m B.lent lk c,
-        B.one,
-        occ_mono c nz R.shrink R.slots R.local,
-        ind_same c c refl,
-      ) in
-      let live : 0 < (columns z v).count c = omega arith in
-      record {
-        free = R.free;
-        lent = Kept-Lent (release_Kept z n (suc t) w u) lent;
-        local = R.local;
-        shrink =
-            Shrink-trans (Shrink-trans B.shrink O.shrink) (Shrink-weaken c (R.local.out 0 (refs_none z)) R.shrink);
-        slots = slots_trans B.slots (slots_trans O.slots R.slots);
-        one = one_left;
-        mark_eq = R.shrink.mark_eq c nz live ∙ mark-out c m B.lent lk c ∙ B.mark_eq;
-        bare =
-            λ k less.
-            ap (λ (f : ℕ → ℕ). f k) (R.shrink.kid_eq c nz live)
-            ∙ bare_out c m B.lent lk k (λ ne. B.bare k (omega arith));
-      }
-
   rows : (m : ℕ) → m ≤ z.degree → Bared z a H c m (row_from (release_from z n (suc t)) z c m a)
   unfolding row_from
   rows zero lm =
@@ -215,13 +110,13 @@ module _ {z : Shape} {a : List ℕ} {free : ℕ → List ℕ} (n t c : ℕ) (H :
         mark_eq = refl;
         bare = λ k less. absurd (omega arith);
       }
-  rows (suc m) lm = turn m (row_from (release_from z n (suc t)) z c m a) lm (rows m (omega arith))
+  rows (suc m) lm = turn n t c H lets l I nz ev at one m (row_from (release_from z n (suc t)) z c m a) lm (rows m (omega arith))
 
   whole : Released z a H (give_back_words z (row_from (release_from z n (suc t)) z c z.degree a) c)
   whole =
       let B = rows z.degree (omega arith) in
       let G = give_back_means H c B.lent B.one
-      (λ k. ⊎_elim (λ less. B.bare k less) (λ less. B.local.clip c k (omega (arith, wide))) (lt? k z.degree)) B.local in
+      (λ k. ⊎_elim (λ less. B.bare k less) (λ less. B.local.clip c k (omega (arith, wide n t c H lets l I nz ev at one))) (lt? k z.degree)) B.local in
       record {
         free = on_chain B.free c;
         local = G.0.local;

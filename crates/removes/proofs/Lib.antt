@@ -1,5 +1,7 @@
 pub mod CaseLaws
+pub mod CutLaws
 pub mod InsideLaws
+pub mod LeftLaws
 pub mod SlotLaws
 pub mod NumberLaws
 pub mod MapLaws

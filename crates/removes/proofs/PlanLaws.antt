@@ -4,7 +4,7 @@ use Prim.Native.Nat.{ℕ, ◌-◌}
 use mathlib.Core.Path.{◌≡◌, refl, sym, ap, ◌∙◌}
 use mathlib.Core.List.{List, ◌∷◌, ◌++◌}
 use native.Mathlib.Omega.{arith}
-use lib.ListN.{length, length-append}
+use lib.ListN.{length}
 use Rattle.segments.specs.Segments.{segment}
 use Rattle.layout.specs.declared.Shape.{Shape}
 use Rattle.layout.specs.Layout.{Lent}
@@ -13,22 +13,20 @@ use Rattle.layout.proofs.SizeLaws.{row_is_Right}
 use Rattle.trie.specs.Entry.{Word64, Got, absent, got}
 use Rattle.trie.specs.Trie.{Item, Map, updated, get, size, list_remove_first}
 use Rattle.trie.proofs.CellLaws.{remove_branches_left, remove_entries_there}
-use Rattle.trie.proofs.CopyLaws.{copies, copies_length, Parts, removed_there, parts_length}
-use Rattle.trie.proofs.PathLaws.{chain_of, get_chain}
+use Rattle.trie.proofs.CopyLaws.{copies, Parts}
+use Rattle.trie.proofs.PathLaws.{chain_of}
 use Rattle.arena.specs.Shows.{ShowsChain, ShowsMap}
 use Rattle.arena.proofs.Shelved.{Good}
 use Rattle.lookup.specs.Lookup.{path_end}
 use Rattle.lookup.proofs.Meaning.{live_named}
 use Rattle.lookup.proofs.SplitLaws.{split_rest, map_hit_there, map_hit_none}
 use Rattle.chains.specs.Chains.{length_at}
-use Rattle.chains.proofs.LengthLaws.{length_shown, length_before}
+use Rattle.chains.proofs.LengthLaws.{length_before}
 use Rattle.grafts.proofs.CaseLaws.{has_key, is_there_lem, is_absent}
-use Rattle.grafts.proofs.SeenLaws.{words_Celled}
-use Rattle.prunes.specs.Prunes.{left_from}
-use Rattle.prunes.proofs.MapLaws.{left_map, map_left_means}
 use Rattle.removes.specs.declared.Cut.{Cut}
 use Rattle.removes.specs.Calls.{left_branches, is_none_left, cutting, cut_of}
 use Rattle.removes.proofs.CaseLaws.{cut_there, cut_absent}
+use Rattle.removes.proofs.LeftLaws.{chain_left, map_left}
 use Rattle.removes.proofs.MapLaws.{without, takes, is_none, none_left, left_branches_lem, size_left}
 
 -- what the cut p says of the map m below the root r and of the result m', for new cells of these names: `copied` are the entries that
@@ -79,28 +77,12 @@ module _ {z : Shape} {a : List ℕ} (l : Lent z a) (e h k : ℕ) (m : Map ℕ) (
   -- WHERE IT IS
   module _ (b f : ℕ → ℕ) (v : ℕ) (g : get (segment z.bits) z.depths h k m ≡ got v) (m' : Map ℕ)
       (q : without z b f h k m ≡ updated m') where
-    chain_left : (p : Parts h k chain_in) → list_remove_first f 0 h k chain_in ≡ copies f 0 p.front ++ p.rest
-    chain_left p = removed_there h k chain_in f 0 v (sym (get_chain seg z.depths h k m) ∙ g) p
-
-    map_left : Parts h k chain_in → ShowsChain ρ chain_in front
-        → left_from z ρ h (length_at z ρ front - 1) z.depths 0 r ≡ left_map (takes z b f h k m).branches m'
-    map_left p chain =
-        map_left_means (words_Celled l) b f h k v m m' good g q r shown (length_at z ρ front - 1)
-        (omega (
-          arith,
-          length_shown z ρ (live_named z a l.allowed) chain_in front chain,
-          parts_length h k chain_in p,
-          ap length (chain_left p),
-          length-append (copies f 0 p.front) p.rest,
-          copies_length f 0 p.front,
-        ))
-
     pub cut_means : (columns z a).size e ≡ size m → Cuts z a b f h k m m' ((columns z a).root e) (cut_of z a e h k)
     unfolding cutting
     cut_means sized =
         let (i, y, s) = map_hit_there z a l.allowed Word64 h k m r good shown v g in
         let p : Parts h k chain_in = s.parts in
-        let left = map_left p s.all_shown in
+        let left = map_left l e h k m good shown b f v g m' q p s.all_shown in
         let ahead : length_at z ρ front - length_at z ρ i ≡ length p.front
         = length_before z ρ (live_named z a l.allowed) s in
         let some = (row_is_Right z l.allowed).some_depths in
@@ -120,5 +102,5 @@ module _ {z : Shape} {a : List ℕ} (l : Lent z a) (e h k : ℕ) (m : Map ℕ) (
           front_shown = rw p.whole at s.all_shown;
           copied_length = sym ahead;
           shared_shown = split_rest s;
-          leaf_is = chain_left p;
+          leaf_is = chain_left l e h k m good shown b f v g m' q p;
         })

@@ -29,7 +29,7 @@ use Rattle.removes.specs.Terms.{remove_step}
 use Rattle.removes.proofs.CaseLaws.{removing}
 use Rattle.removes.proofs.MapLaws.{takes, made_there}
 use Rattle.removes.proofs.PlanLaws.{Cuts, cut_found, cut_means}
-use Rattle.removes.proofs.WriteLaws.{cut_writes}
+use Rattle.removes.proofs.CutLaws.{cut_writes}
 
 module _ (a : List ℕ) (S : Sound a) (z : Shape) (head : Header a z) (e h k : ℕ) (m : Map ℕ) (E : Holds z a e m) where
   lent : Lent z a

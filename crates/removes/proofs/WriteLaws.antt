@@ -31,14 +31,11 @@ use Rattle.cells.proofs.Made.{left, taking, Made, none_taken}
 use Rattle.chains.specs.Chains.{taken_from}
 use Rattle.chains.proofs.Meaning.{take_none, take_means}
 use Rattle.prunes.proofs.MapLaws.{map_prune_means}
-use Rattle.replies.specs.Answers.{done_taking}
-use Rattle.replies.specs.Outcomes.{leaves}
-use Rattle.grants.proofs.CaseLaws.{hold_some}
-use Rattle.grants.proofs.FreshLaws.{names_of_branches, names_of_entries, Written}
-use Rattle.grants.proofs.RootLaws.{Rooted, path_Rooted, slot_means}
+use Rattle.grants.proofs.FreshLaws.{names_of_branches, names_of_entries}
+use Rattle.grants.proofs.RootLaws.{Rooted, path_Rooted}
 use Rattle.removes.specs.declared.Cut.{Cut}
-use Rattle.removes.specs.Calls.{lacks, cut_to}
-use Rattle.removes.proofs.CaseLaws.{chain_wrote, root_wrote, cut_none, cut_goes}
+use Rattle.removes.specs.Calls.{lacks}
+use Rattle.removes.proofs.CaseLaws.{chain_wrote, root_wrote}
 use Rattle.removes.proofs.PlanLaws.{Cuts}
 
 -- nothing in hand is as the reference 0 in hand
@@ -46,7 +43,7 @@ none_in_hand : {z : Shape} {σ : State} {free : ℕ → List ℕ} → Local z σ
 none_in_hand I = rehand (λ r. ind r 0) (λ r nz. sym (ind_other r 0 (λ y. nz (sym y)))) I
 
 -- WHAT IS LEFT OF THE CHAIN: xs, shown from the reference in hand on, and no cell was wanting
-record Chained (z : Shape) (a : List ℕ) (free : ℕ → List ℕ) (n : ℕ) (xs : List (Item ℕ)) (w : Wrote) : Type 0 where
+pub record Chained (z : Shape) (a : List ℕ) (free : ℕ → List ℕ) (n : ℕ) (xs : List (Item ℕ)) (w : Wrote) : Type 0 where
   pub enough : lacks w.at n ≡ false
   pub kept : Kept z a w.words
   pub local : Local z (columns z w.words) (λ r. ind r w.at) (left (taking 1 n) free)
@@ -112,7 +109,7 @@ module _ {z : Shape} {a : List ℕ} {free : ℕ → List ℕ} (l : Lent z a) (I 
   seg = segment z.bits
 
   -- nothing is left
-  none_Rooted : Cuts z a bn fn h k m empty r p → Rooted z a free p.branches p.before empty (wrote 0 a)
+  pub none_Rooted : Cuts z a bn fn h k m empty r p → Rooted z a free p.branches p.before empty (wrote 0 a)
   unfolding ShowsMap
   none_Rooted P =
       let some = (row_is_Right z l.allowed).some_depths in
@@ -130,14 +127,14 @@ module _ {z : Shape} {a : List ℕ} {free : ℕ → List ℕ} (l : Lent z a) (I 
 
   -- a root is left
   module _ (n : Node ℕ) (P : Cuts z a bn fn h k m (root n) r p) where
-    chain_made : Chained z a free p.before (list_remove_first fn 0 h k (chain_of seg z.depths h m)) (chain_wrote z a h p)
+    pub chain_made : Chained z a free p.before (list_remove_first fn 0 h k (chain_of seg z.depths h m)) (chain_wrote z a h p)
     unfolding chain_wrote
     chain_made =
         rw P.leaf_is
         (take_chained l I p.before p.front p.rest P.at P.copied P.shared P.front_shown P.copied_length
         P.shared_shown room_1)
 
-    root-Made : Made z (chain_wrote z a h p).words (left (taking 1 p.before) free) (taking 0 p.branches) (root_wrote z a h p)
+    pub root-Made : Made z (chain_wrote z a h p).words (left (taking 1 p.before) free) (taking 0 p.branches) (root_wrote z a h p)
         × ShowsMap (columns z (root_wrote z a h p).words) (root n) (root_wrote z a h p).at
     unfolding root_wrote
     root-Made =
@@ -147,18 +144,5 @@ module _ {z : Shape} {a : List ℕ} {free : ℕ → List ℕ} (l : Lent z a) (I 
         (map_kept C.grow m p.root (subst (λ (q : ℕ). ShowsMap (columns z a) m q) (sym P.root_is) shown))
         C.shows P.branches_is room_0 (λ u lu. ap bn (omega arith))
 
-    some_Rooted : Rooted z a free p.branches p.before (root n) (root_wrote z a h p)
+    pub some_Rooted : Rooted z a free p.branches p.before (root n) (root_wrote z a h p)
     some_Rooted = let C = chain_made in path_Rooted C.kept C.grow C.slots root-Made.0 root-Made.1
-
-  -- either
-  pub cut_writes : (m' : Map ℕ) → Cuts z a (names_of_branches free p.branches) (names_of_entries free) h k m m' r p
-      → (s : ℕ) → s < z.slots → ((columns z a).held s ≡ 1 → ⊥)
-      → (b : List ℕ) × (cut_to z a h p s ≡ leaves (done_taking s p.branches p.before) b)
-      × Written z a free p.branches p.before s m' b
-  cut_writes empty P s ls away =
-      (_, cut_none z a h p s P.empty_is, slot_means s p.size (none_Rooted P) l P.size_is ls away)
-  cut_writes (root n) P s ls away = (
-    _,
-    cut_goes z a h p s P.empty_is (chain_made n P).enough ∙ hold_some z s p.size _ _ _ (root-Made n P).0.some,
-    slot_means s p.size (some_Rooted n P) l P.size_is ls away,
-  )

@@ -1,10 +1,12 @@
 pub mod TestLaws
+pub mod WantedLaws
 pub mod InsideLaws
 pub mod SlotLaws
 pub mod NumberLaws
 pub mod TableLaws
 pub mod MapLaws
 pub mod PlanLaws
+pub mod WrittenWords
 pub mod WriteLaws
 pub mod RoomLaws
 pub mod UpdateLaws

@@ -21,7 +21,8 @@ use Rattle.grants.proofs.TestLaws.{Goes}
 use Rattle.grants.proofs.NumberLaws.{AnyWhen, Answers, few_entries_Answers, wrote_Answers, hold_Answers, update_answers, update_Unaltered, update_few_branches, update_few_entries}
 use Rattle.updates.specs.declared.Plan.{Plan}
 use Rattle.updates.specs.Calls.{plan_of, write_to, write_in}
-use Rattle.updates.proofs.TestLaws.{NotThere, wanted_lacks, write_of, writing}
+use Rattle.updates.proofs.TestLaws.{NotThere, write_of, writing}
+use Rattle.updates.proofs.WantedLaws.{wanted_lacks}
 
 -- an update that goes on gives 8, 9 or 0, and a refusal's values are zeros
 to_Answers : (z : Shape) (a : List ℕ) (h k v : ℕ) (p : Plan) (s : ℕ) → Answers (write_to z a h k v p s)

@@ -10,7 +10,8 @@ use Rattle.layout.specs.Header.{Header}
 use Rattle.replies.proofs.Tables.{HeaderNumbered, Held}
 use Rattle.grants.proofs.TableLaws.{UpdateWhen, Counted, update_numbered}
 use Rattle.updates.specs.Calls.{plan_of, wanted}
-use Rattle.updates.proofs.TestLaws.{NotThere, wanted_lacks, write_of, writing}
+use Rattle.updates.proofs.TestLaws.{NotThere, write_of, writing}
+use Rattle.updates.proofs.WantedLaws.{wanted_lacks}
 
 -- THE TABLE, by whether the key is there and how many cells the update takes of each kind
 abbrev pub WriteWhen : Shape → List ℕ → ℕ → Bool → Bool → ℕ → ℕ → ℕ → Type 0

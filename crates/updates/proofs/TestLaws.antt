@@ -31,10 +31,6 @@ NotThere change there = (change ≡ true) × (there ≡ false)
 pub insert_wants : (there : Bool) → NotThere false there → ⊥
 insert_wants there n = let m : ◌≡◌ {A = ℕ} 0 1 = cc in omega arith
 
-by_test : (change there : Bool) → (cond change there true ≡ false) ↔ NotThere change there
+pub by_test : (change there : Bool) → (cond change there true ≡ false) ↔ NotThere change there
 by_test true there = (λ q. (refl, q), λ n. n.1)
 by_test false there = (λ q. let m : ◌≡◌ {A = ℕ} 0 1 = cc in absurd (omega arith), λ n. absurd (insert_wants there n))
-
-pub wanted_lacks : (change : Bool) (p : Plan) → (wanted change p ≡ false) ↔ NotThere change p.replaced
-unfolding wanted
-wanted_lacks change p = by_test change p.replaced

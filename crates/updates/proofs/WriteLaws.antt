@@ -13,12 +13,11 @@ use Rattle.arena.specs.Shows.{ShowsChain, ShowsMap}
 use Rattle.arena.specs.Local.{Local}
 use Rattle.arena.proofs.Frames.{map_kept}
 use Rattle.arena.proofs.Shelved.{Good}
-use Rattle.cells.specs.Mirrors.{Wrote, one_more}
+use Rattle.cells.specs.Mirrors.{one_more}
 use Rattle.cells.proofs.KeptLaws.{Kept-Lent}
 use Rattle.cells.proofs.Made.{left, taking, Made}
-use Rattle.chains.specs.Chains.{an_entry, front_pushed}
+use Rattle.chains.specs.Chains.{an_entry}
 use Rattle.chains.proofs.Meaning.{push_means}
-use Rattle.grafts.specs.Grafts.{graft_from}
 use Rattle.replies.specs.Answers.{done_taking}
 use Rattle.replies.specs.Outcomes.{leaves}
 use Rattle.replies.proofs.AnswerLaws.{wrote_some}
@@ -30,14 +29,7 @@ use Rattle.updates.specs.declared.Plan.{Plan}
 use Rattle.updates.specs.Calls.{write_to}
 use Rattle.updates.proofs.MapLaws.{with_entry, new_leaf, map_graft_means}
 use Rattle.updates.proofs.PlanLaws.{Plans}
-
--- THE WORDS: after the leaf, and after the path above it
-module _ (z : Shape) (a : List ℕ) (h k v : ℕ) (p : Plan) where
-  unfoldable pub leaf_wrote : Wrote
-  leaf_wrote = front_pushed z a p.length (an_entry h k v) p.before p.front p.rest
-
-  unfoldable pub root_wrote : Wrote
-  root_wrote = graft_from z h leaf_wrote.at p.replaced z.depths 0 p.root leaf_wrote.words
+use Rattle.updates.proofs.WrittenWords.{leaf_wrote, root_wrote}
 
 write_to_is : (z : Shape) (a : List ℕ) (h k v : ℕ) (p : Plan) (s : ℕ) → ((leaf_wrote z a h k v p).at ≡ 0 → ⊥)
     → ((root_wrote z a h k v p).at ≡ 0 → ⊥)

@@ -1,4 +1,3 @@
-use Prim.Native.Nat.{◌-◌}
 use lib.ListN.{length-set}
 use Rattle.layout.specs.Columns.{columns}
 use Rattle.layout.proofs.SizeLaws.{small}

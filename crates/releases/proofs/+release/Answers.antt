@@ -3,7 +3,6 @@ use Rattle.releases.proofs.StepLaws.{row_none, row_next, release_over, release_s
 use Rattle.layout.proofs.SizeLaws.{small}
 use Rattle.cells.proofs.KeptLaws.{lent_same}
 use Rattle.lookup.proofs.FindLaws.{kind_says}
-use Prim.Native.Nat.{◌-◌}
 use mathlib.Core.Path.{refl, sym, ◌∙◌}
 use native.Mathlib.Omega.{arith}
 use Rattle.releases.proofs.+release.Goals as goal

@@ -1,5 +1,4 @@
 -- `releases::pass` meets its contract: each turn leaves what the row comes to with one place more.
-use Prim.Native.Nat.{◌-◌}
 use mathlib.Core.Path.{refl, sym, ap, ◌∙◌}
 use lib.ListN.{length}
 use Rattle.layout.proofs.SizeLaws.{small}
