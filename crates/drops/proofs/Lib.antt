@@ -1,5 +1,6 @@
 pub mod CaseLaws
 pub mod InsideLaws
 pub mod NumberLaws
+pub mod FreeLaws
 pub mod DropLaws
 pub mod StepLaws

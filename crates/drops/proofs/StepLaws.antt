@@ -1,6 +1,6 @@
 -- The steps of drop, as the definitions have them.
 use Prim.Native.Nat.{ℕ, ◌-◌}
-use mathlib.Core.Path.{◌≡◌, sym, ap, ◌∙◌, ap₂}
+use mathlib.Core.Path.{◌≡◌, ap, ◌∙◌, ap₂}
 use mathlib.Core.List.{List}
 use native.Mathlib.Omega.{arith}
 use Rattle.layout.specs.declared.Shape.{Shape}

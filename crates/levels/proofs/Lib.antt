@@ -2,9 +2,12 @@ pub mod Paths
 pub mod Children
 pub mod PrefixLaws
 pub mod LeadLaws
+pub mod PartLaws
 pub mod SeenLaws
 pub mod SamePrefix
+pub mod CloseLaws
 pub mod ShownLaws
 pub mod CaseLaws
 pub mod StepLaws
+pub mod OneSlot
 pub mod SlotLaws

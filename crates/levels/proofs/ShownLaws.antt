@@ -3,12 +3,12 @@
 -- a row are those of its children: they ascend, and the bitmap has a bit for each and no others.
 use Prim.Native.Nat.{ℕ, zero, suc, ◌+◌, ◌-◌, ◌^◌, ◌≤◌, ◌<◌}
 use mathlib.Core.Path.{◌≡◌, refl, sym, ap, ◌∙◌}
-use mathlib.Core.Bool.{true, false, cond}
+use mathlib.Core.Bool.{true, false}
 use mathlib.Core.Logic.{◌⊎◌, inl, inr, ⊎_elim}
 use mathlib.Core.List.{[], List, ◌∷◌}
 use native.Mathlib.Omega.{arith}
 use borrow.Author.Tests.{eq-eqb, ne_eqb, lt-ltb, le-leb}
-use lib.Dec.{eqb, ltb}
+use lib.Dec.{eqb}
 use lib.ListN.{length}
 use Rattle.cases.proofs.Cases.{eq?}
 use Rattle.segments.specs.Segments.{segment}
@@ -29,10 +29,11 @@ use Rattle.audits.specs.Audits.{is_live}
 use Rattle.audits.proofs.AllLaws.{all_is}
 use Rattle.levels.specs.declared.Seen.{Seen}
 use Rattle.levels.specs.declared.Seen.TheVariants.{Fault, Under}
-use Rattle.levels.specs.Levels.{on_seen, seen_entry, see_by, fits, closed, row_from, branch_by, see_from}
+use Rattle.levels.specs.Levels.{on_seen, seen_entry, see_by, fits, row_from, branch_by, see_from}
 use Rattle.levels.proofs.Paths.{asked}
 use Rattle.levels.proofs.Children.{chain_length, kids_length, From, above_from, Asc-From}
 use Rattle.levels.proofs.SamePrefix.{same_prefix_lem}
+use Rattle.levels.proofs.CloseLaws.{closes}
 
 -- the leftmost entry's reference; 0 where there is none
 unfoldable mutual
@@ -171,17 +172,6 @@ module _ (z : Shape) (σ : State) (named : (r : ℕ) → 0 < σ.count r → name
   leaf_seen n t r path x xs Q below d h c =
       rw (is_live_lem 1 r (omega (arith, h.0)) h.1, chain_length (x ∷ xs), ← h.0) (entry_seen n t r path x xs d h Q c)
 
-  -- ALL CHILDREN READ
-  closes : (t r l bits size : ℕ) → σ.plain r 0 ≡ bits → (t ≡ 0) ⊎ (1 < size) → closed σ t r l bits size ≡ Under l size
-  unfolding closed
-  closes t r l bits size e many = rw (eq-eqb (σ.plain r 0) bits e) (go many (eq? t 0))
-    where
-      go : (t ≡ 0) ⊎ (1 < size) → (t ≡ 0) ⊎ (t ≡ 0 → ⊥)
-          → cond (eqb t 0) (Under l size) (cond (ltb 1 size) (Under l size) Fault) ≡ Under l size
-      go m (inl e) = rw (eq-eqb t 0 e)
-      go (inl e) (inr ne) = absurd (ne e)
-      go (inr m) (inr ne) = rw (ne_eqb t 0 ne, lt-ltb 1 size m)
-
   -- A ROW of children at depth t, the length of their path, where each child is seen as it is
   module _ (n : ℕ) (path : List ℕ) (look : ℕ → Seen)
       (looks : (s q : ℕ) (m : Node ℕ) → Shows σ m (suc (length path)) q → Canon seg Word64 Busy n (s ∷ path) m
@@ -221,14 +211,14 @@ module _ (z : Shape) (σ : State) (named : (r : ℕ) → 0 < σ.count r → name
       row_done : (fuel k low bits size : ℕ) → ((j : ℕ) → k ≤ j → σ.kid r j ≡ 0) → σ.plain r 0 ≡ bits → size ≡ all
           → row_from look z σ t r l fuel k low bits size ≡ Under l all
       unfolding row_from
-      row_done zero k low bits size nil b whole = rw whole (closes t r l bits all b many)
+      row_done zero k low bits size nil b whole = rw whole (closes σ t r l bits all b many)
       row_done (suc fuel) k low bits size nil b whole =
           rw (
             eq-eqb (σ.kid r k) 0 (nil k (omega arith)),
             all_is (λ j. eqb (σ.kid r j) 0) k (suc fuel) (λ j o p. eq-eqb (σ.kid r j) 0 (nil j o)),
             whole,
           )
-          (closes t r l bits all b many)
+          (closes σ t r l bits all b many)
 
       row_seen : (ks : Kids ℕ) (fuel k low bits size : ℕ) (f : ℕ → ℕ) → fuel + k ≡ z.degree
           → ((j : ℕ) → f j ≡ σ.kid r (k + j)) → ShowsRow σ ks t f → From low ks → Each seg n path ks

@@ -2,11 +2,10 @@
 -- held and its root is none or is seen.
 use Prim.Native.Nat.{ℕ, zero, suc, ◌<◌}
 use mathlib.Core.Path.{◌≡◌, refl, subst}
-use mathlib.Core.Bool.{true, false, cond}
-use mathlib.Core.Logic.{◌⊎◌, inl, inr, ⊎_elim}
+use mathlib.Core.Bool.{true}
+use mathlib.Core.Logic.{◌⊎◌, ⊎_elim}
 use native.Mathlib.Omega.{arith}
-use borrow.Author.Tests.{eq-eqb, ne_eqb, eqb-true}
-use lib.Dec.{eqb}
+use borrow.Author.Tests.{eq-eqb, ne_eqb}
 use Rattle.cases.proofs.Cases.{both, eq?}
 use Rattle.layout.specs.declared.Shape.{Shape}
 use Rattle.layout.specs.Layout.{reference, kind_of, cell_of}
@@ -19,17 +18,14 @@ use Rattle.audits.proofs.AllLaws.{false-true, all_below}
 use Rattle.audits.proofs.CellLaws.{branch_deep}
 use Rattle.levels.specs.declared.Seen.{Seen}
 use Rattle.levels.specs.declared.Seen.TheVariants.{Fault, Under}
-use Rattle.levels.specs.Levels.{on_seen, is_seen, see_at, is_at, branch_seen, level_seen, levels_seen, size_is, root_right, slot_right, slots_right}
+use Rattle.levels.specs.Levels.{on_seen, is_seen, see_at, is_at, branch_seen, level_seen, levels_seen, slot_right, slots_right}
+use Rattle.levels.proofs.OneSlot.{slot_says}
+pub use Rattle.levels.proofs.OneSlot.{RootIs, RootSeen}
 
 seen_some : (s : Seen) → is_seen s ≡ true → (l : ℕ) × (n : ℕ) × (s ≡ Under l n)
 unfolding on_seen
 seen_some Fault e = absurd (false-true e)
 seen_some (Under l n) e = (l, n, refl)
-
-size_some : (s : Seen) (n : ℕ) → size_is s n ≡ true → (l : ℕ) × (s ≡ Under l n)
-unfolding size_is
-size_some Fault n e = absurd (false-true e)
-size_some (Under l s) n e = let q : s ≡ n = eqb-true _ _ e in (l, rw q)
 
 module _ (z : Shape) (σ : State) where
   -- LEVELS
@@ -59,36 +55,7 @@ module _ (z : Shape) (σ : State) where
       (cell_of r) (omega (arith, c.0, cells_branch z (kind_of r) e)) in
       is_seen_lem r (subst (λ (x : ℕ). branch_seen z σ t x ≡ true) at seen) live
 
-  -- A SLOT
-  abbrev pub RootIs : ℕ → ℕ → Type 0
-  RootIs r n = ((r ≡ 0) × (n ≡ 0)) ⊎ ((r ≡ 0 → ⊥) × ((l : ℕ) × (see_at z σ 0 r ≡ Under l n)))
-
-  abbrev pub RootSeen : ℕ → Type 0
-  RootSeen s = (σ.held s ≡ 1) × RootIs (σ.root s) (σ.size s)
-
-  root_says : (r n : ℕ) → root_right z σ r n ≡ true → RootIs r n
-  unfolding root_right
-  root_says r n t =
-      ⊎_elim
-      (λ e. inl (e, eqb-true _ _ (rw (eq-eqb r 0 e) at t)))
-      (λ ne. inr (ne, size_some _ n (rw (ne_eqb r 0 ne) at t)))
-      (eq? r 0)
-
-  slot_says : (s : ℕ) → slot_right z σ s ≡ true → FreeSlot σ s ⊎ RootSeen s
-  unfolding slot_right
-  slot_says s t =
-      ⊎_elim
-      (λ e.
-      let f : cond (eqb (σ.root s) 0) (eqb (σ.size s) 0) false ≡ true = rw (eq-eqb (σ.held s) 0 e) at t in
-      let w = both _ _ f in
-      inl (record { not_held = e; no_root = eqb-true _ _ w.0; no_size = eqb-true _ _ w.1 }))
-      (λ ne.
-      let f : cond (eqb (σ.held s) 1) (root_right z σ (σ.root s) (σ.size s)) false ≡ true
-      = rw (ne_eqb (σ.held s) 0 ne) at t in
-      let w = both _ _ f in
-      inr (eqb-true _ _ w.0, root_says (σ.root s) (σ.size s) w.1))
-      (eq? (σ.held s) 0)
-
-  pub slot_tested : slots_right z σ ≡ true → (s : ℕ) → s < z.slots → FreeSlot σ s ⊎ RootSeen s
+  -- SLOTS
+  pub slot_tested : slots_right z σ ≡ true → (s : ℕ) → s < z.slots → FreeSlot σ s ⊎ RootSeen z σ s
   unfolding slots_right
-  slot_tested slots s l = slot_says s (all_below (slot_right z σ) z.slots slots s l)
+  slot_tested slots s l = slot_says z σ s (all_below (slot_right z σ) z.slots slots s l)

@@ -1,4 +1,3 @@
-use Prim.Native.Nat.{◌-◌}
 use mathlib.Core.Path.{sym, ◌∙◌}
 use Rattle.grafts.proofs.StepLaws.{reach_start, reach_stops, reach_Missing, reach_on, reach_over}
 use native.Mathlib.Omega.{arith}

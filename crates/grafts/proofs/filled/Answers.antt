@@ -1,4 +1,3 @@
-use Prim.Native.Nat.{◌-◌}
 use Rattle.layout.proofs.SizeLaws.{small}
 use Rattle.cells.specs.Mirrors.{listed}
 use Rattle.grafts.proofs.LoadLaws.{none_yet, none_next, none_all}

@@ -1,4 +1,3 @@
-use Prim.Native.Nat.{◌-◌}
 use mathlib.Core.Path.{refl}
 use Rattle.layout.proofs.SizeLaws.{small}
 use Rattle.cells.proofs.KeptLaws.{lent_same}

@@ -1,5 +1,4 @@
 use mathlib.Core.Path.{sym, ◌∙◌}
-use Prim.Native.Nat.{◌-◌}
 use native.Mathlib.Omega.{arith}
 use Rattle.audits.proofs.AllLaws.{all_stops, all_over}
 use Rattle.audits.proofs.StepLaws.{all_first}

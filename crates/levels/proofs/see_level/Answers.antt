@@ -1,4 +1,3 @@
-use Prim.Native.Nat.{◌-◌}
 use mathlib.Core.Path.{sym, ◌∙◌}
 use Rattle.audits.proofs.AllLaws.{false-true}
 use Rattle.levels.proofs.StepLaws.{Through-first, Through-next, through_stops, through_only, Through-all}
