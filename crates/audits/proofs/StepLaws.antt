@@ -11,7 +11,7 @@ use Rattle.cases.proofs.Cases.{eq?}
 use Rattle.counts.specs.Counts.{ind, sum_to}
 use Rattle.counts.proofs.CountLaws.{ind_same, ind_other, cnt_le}
 use Rattle.layout.specs.declared.Shape.{Shape}
-use Rattle.layout.specs.Layout.{reference, kind_of, cells_of, names}
+use Rattle.layout.specs.Layout.{reference, kind_of, cells_of}
 use Rattle.layout.specs.Columns.{State, columns, word, plain_place}
 use Rattle.layout.proofs.OffsetLaws.{names_is, cells_branch, cells_entry}
 use Rattle.layout.proofs.ColumnLaws.{plain_in}

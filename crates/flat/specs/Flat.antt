@@ -1,6 +1,6 @@
 -- An answer as C and Rust see it: one struct of four numbers. `Says` is how a call that answers such a struct is stated by the
 -- contract of the call it makes.
-use Rattle.std.specs.Prelude.{ℕ, ◌≡◌}
+use Rattle.std.specs.Prelude.{◌≡◌}
 use Rattle.replies.specs.Answers.{Answer, answer}
 use Rattle.flat.specs.declared.Flat.{Flat}
 

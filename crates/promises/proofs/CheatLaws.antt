@@ -34,7 +34,7 @@ use Rattle.promises.specs.Spends.{Spends}
 use Rattle.promises.specs.Program.{Program}
 use Rattle.settled.proofs.Numbers.{Number-once}
 use Rattle.promises.proofs.SpendLaws.{spends}
-use Rattle.promises.proofs.DoneLaws.{Done, insert_Done}
+use Rattle.promises.proofs.DoneLaws.{insert_Done}
 use Rattle.promises.proofs.StoryLaws.{lent, Fresh, Ready, Has, format_must, new_must, insert_must, not_held_must, get_must, remove_must, drop_must}
 
 -- THE STORY, told by a program

@@ -42,7 +42,7 @@ use Rattle.replies.specs.declared.Updated.TheVariants as W
 use Rattle.replies.specs.declared.Dropped.{Dropped}
 use Rattle.replies.specs.declared.Found.{Found}
 use Rattle.replies.specs.declared.Found.TheVariants as D
-use Rattle.replies.specs.Answers.{answer, done, formatted, made, updated}
+use Rattle.replies.specs.Answers.{done, formatted, made}
 use Rattle.replies.specs.Outcomes.{Outcome, leaves}
 use Rattle.replies.proofs.AnswerLaws.{header_Right}
 use Rattle.replies.proofs.Tables.{AllHeld, Held, number}

@@ -1,6 +1,5 @@
 use Rattle.cells.proofs.KeptLaws.{lent_same}
 use Rattle.chains.proofs.StepLaws.{entry_refs, new_names, on_over, on_ends, on_fails, on_next}
-use mathlib.Core.Bool.{true}
 use mathlib.Core.Path.{refl, sym, ◌∙◌}
 use native.Mathlib.Omega.{arith}
 use Rattle.chains.proofs.copy_on.Goals as goal
