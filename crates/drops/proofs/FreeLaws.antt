@@ -1,17 +1,16 @@
 -- What it means that an edition which is held is let go, on a sound arena: the slot is empty, what it named and nothing else names
 -- is free, every other edition is the same named trie, and the arena stays sound.
-use Prim.Native.Nat.{ℕ, ◌+◌, ◌≤◌, ◌<◌}
+use Prim.Native.Nat.{ℕ, ◌≤◌, ◌<◌}
 use mathlib.Core.Path.{◌≡◌, ap, ◌∙◌}
 use mathlib.Core.List.{[], List, ◌∷◌}
 use mathlib.Core.Logic.{inl, ⊎_elim}
 use native.Mathlib.Omega.{arith}
 use Rattle.cases.proofs.Cases.{eq?}
-use Rattle.counts.specs.Counts.{ind}
 use Rattle.trie.specs.Trie.{Map, empty, root, leaf, branch}
 use Rattle.layout.specs.declared.Shape.{Shape}
 use Rattle.layout.specs.Layout.{kind_of, Lent}
 use Rattle.layout.specs.Header.{Header}
-use Rattle.layout.specs.Columns.{State, columns, set_slot_words}
+use Rattle.layout.specs.Columns.{State, columns}
 use Rattle.layout.proofs.HeaderLaws.{Header-Lent}
 use Rattle.arena.specs.Shows.{ShowsChain, Shows, ShowsMap}
 use Rattle.arena.specs.Sound.{FreeSlot, HeldSlot, Sound}
@@ -21,14 +20,14 @@ use Rattle.arena.proofs.LocalLaws.{root_live}
 use Rattle.arena.proofs.Frames.{SameSlot, Edition-left, Shrink-trans, slot_trans, slots_at, slot_stays, other_slots}
 use Rattle.arena.proofs.Equivalent.{held_slot_lem, local_sound}
 use Rattle.arena.proofs.Shelved.{Local-in, slots_in}
-use Rattle.cells.proofs.KeptLaws.{Kept-Header, Kept-Lent, slots_kept}
-use Rattle.cells.proofs.Meaning.{Slotted, let_go_means}
+use Rattle.cells.proofs.KeptLaws.{Kept-Header}
 use Rattle.releases.proofs.Meaning.{Released, release_means, used_falls}
 use Rattle.replies.specs.Answers.{Answer, done}
 use Rattle.replies.specs.Outcomes.{Outcome, leaves}
 use Rattle.drops.specs.Calls.{free_words, fell}
 use Rattle.drops.specs.Terms.{Gone}
 use Rattle.drops.proofs.InsideLaws.{free_Kept}
+use Rattle.drops.proofs.EmptiedSlot.{slot_out, emptied, still_Lent}
 
 -- a branch that a slot names stands at depth 0
 root_mark : (σ : State) (m : Map ℕ) (r : ℕ) → ShowsMap σ m r → (r ≡ 0 → ⊥) → kind_of r ≡ 0 → σ.mark r ≡ 0
@@ -50,10 +49,7 @@ module _ (a : List ℕ) (S : Sound a) (z : Shape) (h : Header a z) (e : ℕ) (sl
   abbrev r : ℕ
   r = (columns z a).root e
 
-  -- the words with the slot emptied, and those that are left
-  abbrev c : List ℕ
-  c = set_slot_words z a e 0 0 0
-
+  -- the words that are left
   abbrev b : List ℕ
   b = free_words z a e
 
@@ -63,34 +59,31 @@ module _ (a : List ℕ) (S : Sound a) (z : Shape) (h : Header a z) (e : ℕ) (sl
   I : Local z (columns z a) (λ x. 0) (Local-in a S z h).0
   I = (Local-in a S z h).1
 
-  emptied : Slotted z e 0 0 0 (columns z a) (columns z c) (λ x. ind x r + 0) (Local-in a S z h).0
-  emptied = let_go_means e lent slot I
-
   -- what it named is at its place
-  at_place : (r ≡ 0 → ⊥) → kind_of r ≡ 0 → (columns z c).mark r ≡ 0
+  at_place : (r ≡ 0 → ⊥) → kind_of r ≡ 0 → (columns z (slot_out a S z h e slot)).mark r ≡ 0
   at_place nz ev =
       let K : HeldSlot z (columns z a) e = held_slot_lem z (columns z a) e held (slots_in a S z h e slot) in
-      emptied.grow.mark_eq r (root_live I e slot nz) ∙ root_mark (columns z a) K.map r K.edition.shows nz ev
+      (emptied a S z h e slot).grow.mark_eq r (root_live I e slot nz) ∙ root_mark (columns z a) K.map r K.edition.shows nz ev
 
-  released : Released z c (λ x. 0) b
+  released : Released z (slot_out a S z h e slot) (λ x. 0) b
   unfolding free_words
   released =
-      release_means z.depths 0 r (λ x. 0) (Kept-Lent (slots_kept z a e 0 0 0 lent.allowed.wide slot) lent) emptied.local
-      (omega arith) at_place
+      release_means z.depths 0 r (λ x. 0) (still_Lent a S z h e slot) (emptied a S z h e slot).local (omega arith) at_place
 
   shrunk : Shrink 0 (columns z a) (columns z b)
-  shrunk = Shrink-trans (emptied.shrink 0) released.shrink
+  shrunk = Shrink-trans ((emptied a S z h e slot).shrink 0) released.shrink
 
   other : (i : ℕ) → (i ≡ e → ⊥) → SameSlot (columns z a) (columns z b) i
-  other i ne = slot_trans (emptied.others i ne) (slots_at released.slots i)
+  other i ne = slot_trans ((emptied a S z h e slot).others i ne) (slots_at released.slots i)
 
   is_empty : FreeSlot (columns z b) e
   is_empty =
       let E = slots_at released.slots e in
+      let out = emptied a S z h e slot in
       record {
-        not_held = E.held_eq ∙ emptied.held_is;
-        no_root = E.root_eq ∙ emptied.root_is;
-        no_size = E.size_eq ∙ emptied.size_is;
+        not_held = E.held_eq ∙ out.held_is;
+        no_root = E.root_eq ∙ out.root_is;
+        no_size = E.size_eq ∙ out.size_is;
       }
 
   free_kept_edition : (i : ℕ) (m : Map ℕ) → (i ≡ e → ⊥) → Holds z a i m → Holds z b i m

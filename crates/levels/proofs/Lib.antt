@@ -9,5 +9,6 @@ pub mod CloseLaws
 pub mod ShownLaws
 pub mod CaseLaws
 pub mod StepLaws
+pub mod RootSize
 pub mod OneSlot
 pub mod SlotLaws

@@ -10,15 +10,9 @@ use Rattle.cases.proofs.Cases.{both, eq?}
 use Rattle.layout.specs.declared.Shape.{Shape}
 use Rattle.layout.specs.Columns.{State}
 use Rattle.arena.specs.Sound.{FreeSlot}
-use Rattle.audits.proofs.AllLaws.{false-true}
-use Rattle.levels.specs.declared.Seen.{Seen}
-use Rattle.levels.specs.declared.Seen.TheVariants.{Fault, Under}
-use Rattle.levels.specs.Levels.{see_at, size_is, root_right, slot_right}
-
-size_some : (s : Seen) (n : ℕ) → size_is s n ≡ true → (l : ℕ) × (s ≡ Under l n)
-unfolding size_is
-size_some Fault n e = absurd (false-true e)
-size_some (Under l s) n e = let q : s ≡ n = eqb-true _ _ e in (l, rw q)
+use Rattle.levels.specs.declared.Seen.TheVariants.{Under}
+use Rattle.levels.specs.Levels.{see_at, root_right, slot_right}
+use Rattle.levels.proofs.RootSize.{size_some}
 
 module _ (z : Shape) (σ : State) where
   abbrev pub RootIs : ℕ → ℕ → Type 0
