@@ -1,49 +1,58 @@
 -- A line of the stored answers: a letter, then numbers. oracle/README.md says how it is written; this is how it is read, byte
 -- by byte. It takes more than is written: spaces and signs '=' may stand in any number between the numbers.
-use Rattle.std.specs.Prelude.{Option, true, false, cond, List, [], ◌∷◌, ℕ, ◌+◌, ◌*◌, ◌-◌, ◌^◌, ◌==◌, eqb, ltb, leb, length, get_or, set, take, drop}
+use Rattle.std.specs.Prelude.{Option, Some, None, true, false, cond, List, [], ◌∷◌, ℕ, ◌+◌, ◌*◌, ◌-◌, ◌^◌, ◌==◌, unwrap_or, eqb, ltb, leb, length, get_or, set, take, drop}
 use Rattle.std.specs.List.{position, position_or_len}
 use Rattle.answers.specs.declared.Line.{Line}
 use Rattle.answers.specs.declared.Numbers.{Numbers}
 
--- the value of a hexadecimal digit, '0' to '9' and 'a' to 'f', and 16 for any other byte
-unfoldable pub digit_of : ℕ → ℕ
-digit_of b = cond (leb b 57) (cond (leb 48 b) (b - 48) 16) (cond (leb b 102) (cond (leb 97 b) (b - 87) 16) 16)
+-- the value of a hexadecimal digit, '0' to '9' and 'a' to 'f', and none for any other byte
+unfoldable pub digit_of : ℕ → Option ℕ
+digit_of b = cond (leb b 57) (cond (leb 48 b) (Some (b - 48)) None) (cond (leb b 102) (cond (leb 97 b) (Some (b - 87)) None) None)
 
 -- something that is no number stands in the line
 abbrev pub broken_of : Numbers → Numbers
-broken_of s = record { count = s.count; values = s.values; last = s.last; begun = s.begun; wrong = true }
+broken_of s = record { count = s.count; values = s.values; last = s.last; wrong = true }
 
 -- the number that has begun is the next of at most eight
-unfoldable pub kept_of : Numbers → Numbers
-kept_of s =
+unfoldable pub kept_of : Numbers → ℕ → Numbers
+kept_of s n =
     cond (ltb s.count 8)
-    (record { count = s.count + 1; values = set s.values s.count s.last; last = 0; begun = false; wrong = s.wrong })
+    (record { count = s.count + 1; values = set s.values s.count n; last = None; wrong = s.wrong })
     (broken_of s)
 
 -- a number ends, if one has begun
-unfoldable pub closed_of : Numbers → Numbers
-closed_of s = cond s.begun (kept_of s) s
+abbrev pub closed_by : Numbers → Option ℕ → Numbers
+closed_by s None = s
+closed_by s (Some n) = kept_of s n
+
+abbrev pub closed_of : Numbers → Numbers
+closed_of s = closed_by s s.last
 
 -- a number begins, or goes on, with a digit; it has at most 64 bits
 unfoldable pub longer_of : Numbers → ℕ → Numbers
 longer_of s d =
-    cond (ltb s.last (2 ^ 60))
-    (record { count = s.count; values = s.values; last = s.last * 16 + d; begun = true; wrong = s.wrong })
+    cond (ltb (unwrap_or s.last 0) (2 ^ 60))
+    (record { count = s.count; values = s.values; last = Some (unwrap_or s.last 0 * 16 + d); wrong = s.wrong })
     (broken_of s)
+
+-- a byte that is no digit stands in no number
+abbrev pub longer_by : Numbers → Option ℕ → Numbers
+longer_by s None = broken_of s
+longer_by s (Some d) = longer_of s d
 
 -- a space or the sign '=' ends a number
 unfoldable pub next_of : Numbers → ℕ → Numbers
 next_of s b =
     cond (eqb b 32) (closed_of s)
     (cond (eqb b 61) (closed_of s)
-    (cond (eqb (digit_of b) 16) (broken_of s) (longer_of s (digit_of b))))
+    (longer_by s (digit_of b)))
 
 unfoldable pub read_of : Numbers → List ℕ → Numbers
 read_of s [] = s
 read_of s (b ∷ bs) = read_of (next_of s b) bs
 
 abbrev pub start : Numbers
-start = record { count = 0; values = 0 ∷ 0 ∷ 0 ∷ 0 ∷ 0 ∷ 0 ∷ 0 ∷ 0 ∷ []; last = 0; begun = false; wrong = false }
+start = record { count = 0; values = 0 ∷ 0 ∷ 0 ∷ 0 ∷ 0 ∷ 0 ∷ 0 ∷ 0 ∷ []; last = None; wrong = false }
 
 -- a line without numbers
 abbrev pub bare_of : ℕ → ℕ → Line

@@ -6,14 +6,15 @@
 
 #![tactic(auto)]
 
-ghost use Rattle.std.specs.Prelude.{◌≡◌, ◌≤◌, ◌<◌, length};
+ghost use Rattle.std.specs.Prelude.{◌≡◌, ◌≤◌, ◌<◌, length, IfSome};
 ghost use Rattle.answers.specs.Lines.{digit_of, broken_of, kept_of, closed_of, longer_of, next_of, read_of, start, bare_of, behind_of, newline_of, newline_from, line_at};
 
 // The numbers of a line: a call has at most four arguments and four numbers in its answer.
 const MOST: usize = 8;
 
-// A line: its letter, its numbers in their order, and where the next line begins.
-#[derive(Clone, Copy)]
+// A line: its letter, its numbers in their order, and where the next line begins. An array with its count: no memory is asked
+// for while a line is read.
+#[derive(Clone, Copy, Debug, PartialEq, Eq)]
 pub struct Line {
     pub letter: u8,
     pub count: usize,
@@ -26,29 +27,21 @@ pub struct Line {
 struct Numbers {
     count: usize,
     values: [u64; 8],
-    last: u64,
-    begun: bool,
+    last: Option<u64>,
     wrong: bool,
 }
 
-// The value of a hexadecimal digit, or 16.
-fn digit(b: u8) -> u64
+// The value of a hexadecimal digit.
+#[tactic(auto, unfolding(crate::specs::Lines::digit_of))]
+fn digit(b: u8) -> Option<u64>
     ensures answers { result ≡ digit_of b }
-    ensures at_most_16 { result ≤ 16 }
+    ensures below_16 { IfSome result (λ d. d < 16) }
 {
-    if b <= 57 {
-        if 48 <= b {
-            return (b - 48) as u64;
-        }
-        return 16;
+    match b {
+        b'0'..=b'9' => Some((b - b'0') as u64),
+        b'a'..=b'f' => Some((b - b'a') as u64 + 10),
+        _ => None,
     }
-    if b <= 102 {
-        if 97 <= b {
-            return (b - 87) as u64;
-        }
-        return 16;
-    }
-    16
 }
 
 impl Numbers {
@@ -58,8 +51,7 @@ impl Numbers {
         Numbers {
             count: 0,
             values: [0; 8],
-            last: 0,
-            begun: false,
+            last: None,
             wrong: false,
         }
     }
@@ -72,68 +64,64 @@ impl Numbers {
     }
 
     // The number that has begun is the next of the line's.
-    fn kept(mut self) -> Self
-        ensures { result ≡ kept_of self }
+    #[tactic(auto, unfolding(crate::specs::Lines::kept_of))]
+    fn kept(mut self, last: u64) -> Self
+        ensures { result ≡ kept_of self last }
     {
         let at = self.count;
         if MOST <= at {
             return self.broken();
         }
-        self.values[at] = self.last;
+        self.values[at] = last;
         self.count = at + 1;
-        self.last = 0;
-        self.begun = false;
+        self.last = None;
         self
     }
 
     fn closed(self) -> Self
         ensures { result ≡ closed_of self }
     {
-        if self.begun {
-            return self.kept();
+        match self.last {
+            Some(last) => self.kept(last),
+            None => self,
         }
-        self
     }
 
+    #[tactic(auto, unfolding(crate::specs::Lines::longer_of))]
     fn longer(mut self, d: u64) -> Self
         requires { d < 16 }
         ensures { result ≡ longer_of self d }
     {
-        let last = self.last;
+        let last = self.last.unwrap_or(0);
         if 1u64 << 60 <= last {
             return self.broken();
         }
-        self.last = last * 16 + d;
-        self.begun = true;
+        self.last = Some(last * 16 + d);
         self
     }
 
+    #[tactic(auto, unfolding(crate::specs::Lines::next_of))]
     fn next(self, b: u8) -> Self
         ensures { result ≡ next_of self b }
     {
-        if b == b' ' {
+        if b == b' ' || b == b'=' {
             return self.closed();
         }
-        if b == b'=' {
-            return self.closed();
+        match digit(b) {
+            Some(d) => self.longer(d),
+            None => self.broken(),
         }
-        let d = digit(b);
-        if d == 16 {
-            return self.broken();
-        }
-        self.longer(d)
     }
 }
 
 // The numbers in a part of a line.
+#[tactic(auto, using(crate::proofs::ReadLaws::read_more, crate::proofs::ReadLaws::read_all))]
 fn read_numbers(part: &[u8]) -> Numbers
     ensures { result ≡ closed_of (read_of start part.now) }
 {
     let mut read = Numbers::new();
-    let mut at = 0;
-    while at < part.len() {
-        read = read.next(part[at]);
-        at += 1;
+    for b in part {
+        read = read.next(*b);
     }
     read.closed()
 }
@@ -159,6 +147,7 @@ fn find(text: &[u8], from: usize) -> usize
 }
 
 // Where the line behind one that ends at `end` begins.
+#[tactic(auto, unfolding(crate::specs::Lines::behind_of))]
 fn behind(text: &[u8], end: usize) -> usize
     requires { end ≤ length text.now }
     ensures answers { result ≡ behind_of text.now end }
@@ -173,10 +162,10 @@ fn bare(letter: u8, next: usize) -> Line
     ensures { result ≡ bare_of letter next }
 {
     Line {
-        letter: letter,
+        letter,
         count: 0,
         numbers: [0; 8],
-        next: next,
+        next,
     }
 }
 
@@ -198,11 +187,11 @@ pub fn read_line(text: &[u8], at: usize) -> Line
     if read.wrong {
         return bare(0, next);
     }
-    let values = read.values;
+    let numbers = read.values;
     Line {
-        letter: letter,
+        letter,
         count: read.count,
-        numbers: values,
-        next: next,
+        numbers,
+        next,
     }
 }

@@ -4,20 +4,16 @@ use std::io;
 
 // Words 8 and 9 name the first free cells. Branch cells of 7 words lie from word 15 on, and entry cells of 6 from word 36.
 pub fn show(rt: &impl Print) -> io::Result<()> {
-    print::say(
-        rt,
-        b"Free chains (degree 4, 3 branch cells, 4 entry cells)\n",
-    )?;
+    println!(rt; "Free chains (degree 4, 3 branch cells, 4 entry cells)")?;
     let mut a = [0u64; 60];
-    shelf::format(&mut a, 4, 3, 4, 1);
-    print::decimal(rt, b"  branch cells: first ", a[8])?;
-    print::decimal(rt, b"; next in each ", a[16])?;
-    print::decimal(rt, b" ", a[23])?;
-    print::decimal(rt, b" ", a[30])?;
-    print::decimal(rt, b"\n  entry cells: first ", a[9])?;
-    print::decimal(rt, b"; next in each ", a[37])?;
-    print::decimal(rt, b" ", a[43])?;
-    print::decimal(rt, b" ", a[49])?;
-    print::decimal(rt, b" ", a[55])?;
-    print::say(rt, b"\n")
+    let _ = shelf::format(&mut a, 4, 3, 4, 1);
+    print!(rt;
+        "  branch cells: first {}; next in each {} {} {}",
+        a[8], a[16], a[23], a[30]
+    )?;
+    print!(rt;
+        "\n  entry cells: first {}; next in each {} {}",
+        a[9], a[37], a[43]
+    )?;
+    println!(rt; " {} {}", a[49], a[55])
 }

@@ -6,7 +6,6 @@
 
 mod degrees;
 mod free_chains;
-mod marked;
 mod sizes;
 mod smallest;
 

@@ -9,50 +9,27 @@ struct Sizes {
     slots: u64,
 }
 
-// Which of the sizes is tried. The other two are 1.
-#[derive(Clone, Copy)]
-enum Tried {
-    Branches,
-    Entries,
-    Slots,
-}
+const ONES: Sizes = Sizes {
+    branches: 1,
+    entries: 1,
+    slots: 1,
+};
 
-fn sizes_for(tried: Tried, n: u64) -> Sizes {
-    match tried {
-        Tried::Branches => Sizes {
-            branches: n,
-            entries: 1,
-            slots: 1,
-        },
-        Tried::Entries => Sizes {
-            branches: 1,
-            entries: n,
-            slots: 1,
-        },
-        Tried::Slots => Sizes {
-            branches: 1,
-            entries: 1,
-            slots: n,
-        },
-    }
-}
-
-fn format(rt: &impl Print, a: &mut [u64], tried: Tried, n: u64) -> io::Result<()> {
-    let s = sizes_for(tried, n);
+fn format(rt: &impl Print, a: &mut [u64], n: u64, s: Sizes) -> io::Result<()> {
     let answer = shelf::format(a, 16, s.branches, s.entries, s.slots);
     print::decimal(rt, b" ", n)?;
-    print::decimal(rt, b" answers ", answer::of_format(answer))
+    print::decimal(rt, b" answers ", answer::number(answer))
 }
 
-// None, one, as many as may be, and one more.
-fn edges(rt: &impl Print, a: &mut [u64], tried: Tried, most: u64, past: u64) -> io::Result<()> {
-    format(rt, a, tried, 0)?;
-    print::say(rt, b",")?;
-    format(rt, a, tried, 1)?;
-    print::say(rt, b",")?;
-    format(rt, a, tried, most)?;
-    print::say(rt, b",")?;
-    format(rt, a, tried, past)?;
+// None, one, as many as may be, and one more: `sizes` puts the number in its place, with 1 for the other two.
+fn edges<F: Fn(u64) -> Sizes>(rt: &impl Print, a: &mut [u64], most: u64, sizes: F) -> io::Result<()>
+    requires { F.IsAlwaysCallable sizes }
+{
+    format(rt, a, 0, sizes(0))?;
+    for n in [1, most, most.saturating_add(1)] {
+        print::say(rt, b",")?;
+        format(rt, a, n, sizes(n))?;
+    }
     print::say(rt, b"\n")
 }
 
@@ -60,7 +37,7 @@ fn edges(rt: &impl Print, a: &mut [u64], tried: Tried, most: u64, past: u64) -> 
 fn first_fault(rt: &impl Print, name: &[u8], degree: u64, size: u64) -> io::Result<()> {
     let mut a = [0u64; 1];
     let answer = shelf::format(&mut a[..0], degree, size, size, size);
-    print::decimal(rt, name, answer::of_format(answer))?;
+    print::decimal(rt, name, answer::number(answer))?;
     print::say(rt, b"\n")
 }
 
@@ -68,11 +45,19 @@ pub fn show(rt: &impl Print) -> io::Result<()> {
     print::say(rt, b"Sizes (degree 16, the other two 1, 8192 words)\n")?;
     let mut a = [0u64; 8192];
     print::say(rt, b"  branch cells:")?;
-    edges(rt, &mut a, Tried::Branches, 1048576, 1048577)?;
+    edges(
+        rt,
+        &mut a,
+        1048576,
+        |n| Sizes {
+            branches: n,
+            ..ONES
+        },
+    )?;
     print::say(rt, b"  entry cells:")?;
-    edges(rt, &mut a, Tried::Entries, 4194304, 4194305)?;
+    edges(rt, &mut a, 4194304, |n| Sizes { entries: n, ..ONES })?;
     print::say(rt, b"  edition slots:")?;
-    edges(rt, &mut a, Tried::Slots, 4096, 4097)?;
+    edges(rt, &mut a, 4096, |n| Sizes { slots: n, ..ONES })?;
     print::say(rt, b"The first fault (no words)\n")?;
     first_fault(rt, b"  degree 3, sizes 0: answers ", 3, 0)?;
     first_fault(rt, b"  degree 16, sizes 0: answers ", 16, 0)?;

@@ -1,7 +1,6 @@
 //! The smallest arena at each degree: one branch cell, one entry cell and one slot.
 ghost use Rattle.std.specs.Prelude.{◌≤◌, length};
 
-use crate::marked;
 use shown::{answer, lent};
 use std::io;
 
@@ -11,7 +10,7 @@ const MARK: u64 = 7;
 fn format_all(rt: &impl Print, a: &mut [u64], degree: u64) -> io::Result<()> {
     print::decimal(rt, b" ", a.len() as u64)?;
     let answer = shelf::format(a, degree, 1, 1, 1);
-    print::decimal(rt, b" words answer ", answer::of_format(answer))
+    print::decimal(rt, b" words answer ", answer::number(answer))
 }
 
 fn format_first(rt: &impl Print, a: &mut [u64], n: usize, degree: u64) -> io::Result<()>
@@ -26,7 +25,7 @@ fn say_kept(rt: &impl Print, a: &[u64], n: usize) -> io::Result<()>
 {
     let rest = &a[n..];
     print::decimal(rt, b" (", rest.len() as u64)?;
-    if marked::all(rest, MARK) {
+    if rest.iter().all(|word| *word == MARK) {
         print::say(rt, b" still 7)")
     } else {
         print::say(rt, b" NOT ALL STILL 7)")
@@ -56,7 +55,7 @@ fn around_total(rt: &impl Print, degree: u64) -> io::Result<()>
 fn all_words(rt: &impl Print) -> io::Result<()> {
     print::say(rt, b"The smallest arena of all, 26 words at degree 2\n")?;
     let mut a = [MARK; 26];
-    shelf::format(&mut a, 2, 1, 1, 1);
+    let _ = shelf::format(&mut a, 2, 1, 1, 1);
     lent::say_part(rt, b"  header:", &a, 0, 12)?;
     lent::say_part(rt, b"  slot:", &a, 12, 15)?;
     lent::say_part(rt, b"  branch cell:", &a, 15, 20)?;

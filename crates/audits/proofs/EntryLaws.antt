@@ -18,7 +18,6 @@ use Rattle.trie.specs.Trie.{Item, item, find}
 use Rattle.trie.specs.Canon.{AllItems, Distinct}
 use Rattle.arena.specs.Shows.{ShowsChain}
 use Rattle.arena.proofs.Few.{chain_few, columns_live}
-use Rattle.lookup.specs.declared.Hit.TheVariants.{Nowhere}
 use Rattle.lookup.specs.Lookup.{names_kind, entry_at, longest, hit_from}
 use Rattle.lookup.proofs.Meaning.{live_named, chain_named}
 use Rattle.lookup.proofs.SplitLaws.{hit_shown, hit_none}
@@ -28,6 +27,7 @@ use Rattle.audits.proofs.Shown.{ChainAt}
 use Rattle.audits.proofs.LiveLaws.{live_is, live_cell}
 use Rattle.audits.proofs.StepLaws.{key_free, key_once}
 use Rattle.audits.proofs.LinkLaws.{nowhere_not, Followed, linked_end, linked_on, used_says, used_is, free_is, key_says}
+use Rattle.std.specs.Prelude.{None}
 
 -- what is said of a chain's entries may be said in other words
 all_also : (P Q : Entry → Type 0) (xs : List (Item ℕ)) → ((e : Entry) → P e → Q e) → AllItems P xs → AllItems Q xs
@@ -181,12 +181,12 @@ module _ (z : Shape) (a : List ℕ) (w : Allowed z) where
 
   -- the search behind the first entry of a chain, for its hash and key
   chain_Nowhere : (r : ℕ) → ChainAt z σ r
-      → hit_from z σ (σ.plain r 0) (σ.plain r 1) (longest z) (σ.kid r 0) ≡ Nowhere
+      → hit_from z σ (σ.plain r 0) (σ.plain r 1) (longest z) (σ.kid r 0) ≡ None
   unfolding ShowsChain Distinct
   chain_Nowhere r c = by c.items c.shows c.some c.distinct
     where
       by : (xs : List (Item ℕ)) → ShowsChain σ xs r → 0 < length xs → Distinct xs
-          → hit_from z σ (σ.plain r 0) (σ.plain r 1) (longest z) (σ.kid r 0) ≡ Nowhere
+          → hit_from z σ (σ.plain r 0) (σ.plain r 1) (longest z) (σ.kid r 0) ≡ None
       by [] s l d = absurd (omega arith)
       by (x ∷ xs) s l d =
           hit_none z σ (live_named z a w) (σ.plain r 0) (σ.plain r 1) (longest z) xs (σ.kid r 0) s.3

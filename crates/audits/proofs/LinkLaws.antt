@@ -9,18 +9,16 @@ use borrow.Author.Tests.{eq-eqb, eqb-true}
 use Rattle.cases.proofs.Cases.{eq?}
 use Rattle.layout.specs.declared.Shape.{Shape}
 use Rattle.layout.specs.Columns.{State}
-use Rattle.lookup.specs.declared.Hit.{Hit}
-use Rattle.lookup.specs.declared.Hit.TheVariants.{At}
 use Rattle.lookup.specs.Lookup.{longest, hit_from}
-use Rattle.audits.specs.Audits.{linked, entry_right, is_nowhere, key_right}
+use Rattle.audits.specs.Audits.{linked, entry_right, key_right}
 use Rattle.audits.proofs.AllLaws.{false-true}
 use Rattle.audits.proofs.StepLaws.{linked_last, linked_next, entry_used, entry_free, key_used, free_value}
 pub use Rattle.audits.proofs.FollowLaws.{Followed}
 use Rattle.audits.proofs.FollowLaws.{to_says, to_is}
+use Rattle.std.specs.Prelude.{Option, Some, is_none}
 
 -- NOWHERE
-pub nowhere_not : (h : Hit) (q : ℕ) → is_nowhere h ≡ true → h ≡ At q → ⊥
-unfolding is_nowhere
+pub nowhere_not : (h : Option ℕ) (q : ℕ) → is_none h ≡ true → h ≡ Some q → ⊥
 nowhere_not h q e y = false-true (rw y at e)
 
 module _ (z : Shape) (σ : State) where
@@ -53,5 +51,5 @@ module _ (z : Shape) (σ : State) where
 
   -- KEYS
   pub key_says : (r : ℕ) → 0 < σ.count r → key_right z σ r ≡ true
-      → is_nowhere (hit_from z σ (σ.plain r 0) (σ.plain r 1) (longest z) (σ.kid r 0)) ≡ true
+      → is_none (hit_from z σ (σ.plain r 0) (σ.plain r 1) (longest z) (σ.kid r 0)) ≡ true
   key_says r l e = sym (key_used z σ r _ refl _ _ _ _ (λ o. omega arith) refl refl refl refl) ∙ e

@@ -16,12 +16,11 @@ use Rattle.layout.specs.Columns.{State, columns, word, plain_place}
 use Rattle.layout.proofs.OffsetLaws.{names_is, cells_branch, cells_entry}
 use Rattle.layout.proofs.ColumnLaws.{plain_in}
 use Rattle.trie.specs.Entry.{Word64}
-use Rattle.lookup.specs.declared.Hit.{Hit}
-use Rattle.lookup.specs.declared.Hit.TheVariants.{At, Nowhere}
 use Rattle.lookup.specs.Lookup.{names_kind, entry_at, longest, hit_from}
 use Rattle.lookup.proofs.FindLaws.{kind_says, kind_is, entry_word}
-use Rattle.audits.specs.Audits.{all_from, none_from, is_live, free_branch, free_entry, one_more, linked_to, linked, entry_right, is_nowhere, key_right, branch_right, idle, walk, chain_right}
+use Rattle.audits.specs.Audits.{all_from, none_from, is_live, free_branch, free_entry, one_more, linked_to, linked, entry_right, key_right, branch_right, idle, walk, chain_right}
 use Rattle.audits.proofs.AllLaws.{all_on, all_stops}
+use Rattle.std.specs.Prelude.{Option, Some, None, is_none}
 
 -- REFERENCES. That of a cell names it, and one that names no cell is of no kind.
 pub cell_named : (z : Shape) (k i r : ℕ) → k < 2 → i < cells_of z k → r ≡ reference k i → names_kind z k r ≡ true
@@ -150,20 +149,18 @@ module _ (z : Shape) (σ : State) (r c : ℕ) (ec : c ≡ σ.count r) where
   unfolding key_right
   key_free e = rw (eq-eqb (σ.count r) 0 (sym ec ∙ e))
 
-  pub key_used : (n h k : ℕ) (t : Hit) → (c ≡ 0 → ⊥) → n ≡ σ.kid r 0 → h ≡ σ.plain r 0 → k ≡ σ.plain r 1
-      → hit_from z σ h k (longest z) n ≡ t → key_right z σ r ≡ is_nowhere t
+  pub key_used : (n h k : ℕ) (t : Option ℕ) → (c ≡ 0 → ⊥) → n ≡ σ.kid r 0 → h ≡ σ.plain r 0 → k ≡ σ.plain r 1
+      → hit_from z σ h k (longest z) n ≡ t → key_right z σ r ≡ is_none t
   unfolding key_right
   key_used n h k t ne en eh ek et = rw (ne_eqb (σ.count r) 0 (λ q. ne (ec ∙ q)), ← en, ← eh, ← ek, et)
 
   pub key_twice : (n h k q : ℕ) → (c ≡ 0 → ⊥) → n ≡ σ.kid r 0 → h ≡ σ.plain r 0 → k ≡ σ.plain r 1
-      → hit_from z σ h k (longest z) n ≡ At q → key_right z σ r ≡ false
-  unfolding is_nowhere
-  key_twice n h k q ne en eh ek et = key_used n h k (At q) ne en eh ek et
+      → hit_from z σ h k (longest z) n ≡ Some q → key_right z σ r ≡ false
+  key_twice n h k q ne en eh ek et = key_used n h k (Some q) ne en eh ek et
 
   pub key_once : (n h k : ℕ) → (c ≡ 0 → ⊥) → n ≡ σ.kid r 0 → h ≡ σ.plain r 0 → k ≡ σ.plain r 1
-      → hit_from z σ h k (longest z) n ≡ Nowhere → key_right z σ r ≡ true
-  unfolding is_nowhere
-  key_once n h k ne en eh ek et = key_used n h k Nowhere ne en eh ek et
+      → hit_from z σ h k (longest z) n ≡ None → key_right z σ r ≡ true
+  key_once n h k ne en eh ek et = key_used n h k None ne en eh ek et
 
 -- a free entry cell, by its words in the order of the test
 module _ (σ : State) (r n : ℕ) (en : n ≡ σ.kid r 0) where
@@ -216,10 +213,6 @@ module _ (σ : State) (k i r c n : ℕ) (er : r ≡ reference k i) (ec : c ≡ �
 
 pub few_free : (σ : State) (k i : ℕ) → sum_to i (λ j. ind 0 (σ.count (reference k j))) ≤ i
 few_free σ k i = cnt_le i (λ j. σ.count (reference k j)) 0
-
-pub count_all : (z : Shape) (σ : State) (k i n : ℕ) → n ≡ sum_to i (λ j. ind 0 (σ.count (reference k j))) → i ≡ cells_of z k
-    → n ≡ idle z σ k
-count_all z σ k i n en e = en ∙ ap (λ (x : ℕ). sum_to x (λ j. ind 0 (σ.count (reference k j)))) e
 
 -- a walk with n cells to go through, by the count c of the first
 module _ (z : Shape) (σ : State) (k : ℕ) where

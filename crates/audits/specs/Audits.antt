@@ -1,14 +1,12 @@
 -- What is asked of each cell by itself, and of the free chains: document 01, SOUND and "The arena", as tests on the columns of an
 -- arena. That they hold in every sound arena, and what they give together with the tests of the crates above, is in the proofs
 -- of this crate and of the crate `checks`.
-use Rattle.std.specs.Prelude.{ℕ, zero, suc, ◌-◌, ◌<◌, Bool, true, false, cond, eqb, ltb}
+use Rattle.std.specs.Prelude.{ℕ, zero, suc, ◌-◌, ◌<◌, Bool, true, false, cond, eqb, ltb, is_none}
 use Rattle.counts.specs.Counts.{ind, sum_to}
 use Rattle.layout.specs.declared.Shape.{Shape}
 use Rattle.layout.specs.Layout.{reference, cells_of}
 use Rattle.layout.specs.Columns.{State}
 use Rattle.trie.specs.Entry.{Word64}
-use Rattle.lookup.specs.declared.Hit.{Hit}
-use Rattle.lookup.specs.declared.Hit.TheVariants.{At, Nowhere}
 use Rattle.lookup.specs.Lookup.{names_kind, entry_at, longest, hit_from}
 
 -- whether p holds of n numbers from i on
@@ -47,14 +45,9 @@ linked z σ r = cond (eqb (σ.kid r 0) 0) (eqb (σ.mark r) 1) (linked_to z σ r 
 unfoldable pub entry_right : Shape → State → ℕ → Bool
 entry_right z σ r = cond (eqb (σ.count r) 0) (free_entry σ r) (linked z σ r)
 
--- no entry behind this one has its hash and key
-unfoldable pub is_nowhere : Hit → Bool
-is_nowhere (At q) = false
-is_nowhere Nowhere = true
-
 unfoldable pub key_right : Shape → State → ℕ → Bool
 key_right z σ r =
-    cond (eqb (σ.count r) 0) true (is_nowhere (hit_from z σ (σ.plain r 0) (σ.plain r 1) (longest z) (σ.kid r 0)))
+    cond (eqb (σ.count r) 0) true (is_none (hit_from z σ (σ.plain r 0) (σ.plain r 1) (longest z) (σ.kid r 0)))
 
 -- BRANCHES. One in use stands above the depth at which a hash is exhausted; what else is asked of it, level by level, is in the
 -- crate above.

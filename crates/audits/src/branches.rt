@@ -14,12 +14,10 @@ pub fn has_none_from(a: &[u64], z: Shape, r: u64, from: u64) -> bool
     requires in_row { from ≤ z.degree }
     ensures { result ≡ none_from ((columns z a.now).kid r) from (z.degree - from) }
 {
-    let mut k = from;
-    while k < z.degree {
+    for k in from..z.degree {
         if links::kid(a, z, r, k) != 0 {
             return false;
         }
-        k += 1;
     }
     true
 }
@@ -32,10 +30,7 @@ fn is_right(a: &[u64], z: Shape, r: u64) -> bool
     if words::word(a, z, r, words::COUNT) != 0 {
         return words::word(a, z, r, words::MARK) < z.depths;
     }
-    if words::word(a, z, r, words::BITMAP) != 0 {
-        return false;
-    }
-    has_none_from(a, z, r, 0)
+    words::word(a, z, r, words::BITMAP) == 0 && has_none_from(a, z, r, 0)
 }
 
 // Every branch cell.
@@ -43,12 +38,10 @@ pub fn are_right(a: &[u64], z: Shape) -> bool
     requires { Lent z a.now }
     ensures { result ≡ branches_right z (columns z a.now) }
 {
-    let mut i = 0;
-    while i < z.branches {
+    for i in 0..z.branches {
         if !is_right(a, z, 2 * i + 2) {
             return false;
         }
-        i += 1;
     }
     true
 }

@@ -7,12 +7,12 @@ ghost use Rattle.lookup.specs.Lookup.{names_kind, entry_at};
 ghost use Rattle.audits.specs.Audits.{one_more, linked_to, linked, entry_right, key_right, EntriesFit, entries_right, keys_right};
 
 use layout::{Shape, words};
-use lookup::{Hit, links};
+use lookup::links;
 
 fn is_one_more(m: u64, n: u64) -> bool
     ensures { result ≡ one_more m n }
 {
-    if n < m { m - n == 1 } else { false }
+    n < m && m - n == 1
 }
 
 // Whether an entry may stand before the one that `next` names.
@@ -21,6 +21,7 @@ fn is_linked_to(a: &[u64], z: Shape, r: u64, next: u64) -> bool
     requires is_entry { names_kind z 1 r ≡ true }
     ensures { result ≡ linked_to z (columns z a.now) r next }
 {
+    // One test after the other: a chain of && leaves the proof without what each of them said.
     if !links::is_entry(z, next) {
         return false;
     }
@@ -61,6 +62,7 @@ fn is_right(a: &[u64], z: Shape, r: u64) -> bool
     if words::word(a, z, r, words::COUNT) != 0 {
         return is_linked(a, z, r);
     }
+    // One test after the other: a chain of && leaves the proof without what each of them said.
     if links::kid(a, z, r, 0) != 0 {
         return false;
     }
@@ -79,12 +81,10 @@ pub fn are_right(a: &[u64], z: Shape) -> bool
     ensures answers { result ≡ entries_right z (columns z a.now) }
     ensures entries_fit { result ≡ true → EntriesFit z (columns z a.now) }
 {
-    let mut i = 0;
-    while i < z.entries {
+    for i in 0..z.entries {
         if !is_right(a, z, 2 * i + 3) {
             return false;
         }
-        i += 1;
     }
     true
 }
@@ -98,16 +98,10 @@ fn has_own_key(a: &[u64], z: Shape, r: u64) -> bool
     if words::word(a, z, r, words::COUNT) == 0 {
         return true;
     }
-    match lookup::find(
-        a,
-        z,
-        links::kid(a, z, r, 0),
-        words::word(a, z, r, words::HASH),
-        words::word(a, z, r, words::KEY),
-    ) {
-        Hit::At(_) => false,
-        Hit::Nowhere => true,
-    }
+    let behind = links::kid(a, z, r, 0);
+    let hash = words::word(a, z, r, words::HASH);
+    let key = words::word(a, z, r, words::KEY);
+    lookup::find(a, z, behind, hash, key).is_none()
 }
 
 // Every entry in use. Each is compared with those behind it alone, which is each pair of a chain once.
@@ -115,12 +109,10 @@ pub fn have_own_keys(a: &[u64], z: Shape) -> bool
     requires { Lent z a.now }
     ensures { result ≡ keys_right z (columns z a.now) }
 {
-    let mut i = 0;
-    while i < z.entries {
+    for i in 0..z.entries {
         if !has_own_key(a, z, 2 * i + 3) {
             return false;
         }
-        i += 1;
     }
     true
 }

@@ -12,14 +12,11 @@ fn count_free(a: &[u64], z: Shape, kind: u64) -> u64
     requires is_kind { kind < 2 }
     ensures { result ≡ idle z (columns z a.now) kind }
 {
-    let cells = words::cells_of(z, kind);
     let mut n = 0;
-    let mut i = 0;
-    while i < cells {
+    for i in 0..words::cells_of(z, kind) {
         if words::word(a, z, 2 * i + 2 + kind, words::COUNT) == 0 {
             n += 1;
         }
-        i += 1;
     }
     n
 }
@@ -32,8 +29,7 @@ fn ends_after(a: &[u64], z: Shape, kind: u64, n: u64, first: u64) -> bool
     ensures { result ≡ walk z (columns z a.now) kind n first }
 {
     let mut r = first;
-    let mut left = n;
-    while left > 0 {
+    for _ in 0..n {
         if r % 2 != kind {
             return false;
         }
@@ -44,7 +40,6 @@ fn ends_after(a: &[u64], z: Shape, kind: u64, n: u64, first: u64) -> bool
             return false;
         }
         r = words::word(a, z, r, words::MARK);
-        left -= 1;
     }
     r == 0
 }

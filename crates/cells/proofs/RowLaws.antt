@@ -1,6 +1,6 @@
 -- A row is written one child at a time.
-use Prim.Native.Nat.{ℕ, zero, suc, ◌+◌, ◌≤◌, ◌<◌}
-use mathlib.Core.Path.{◌≡◌, refl, sym}
+use Prim.Native.Nat.{ℕ, zero, suc, ◌+◌, ◌<◌}
+use mathlib.Core.Path.{◌≡◌, refl}
 use mathlib.Core.List.{List}
 use native.Mathlib.Omega.{arith}
 use native.Mathlib.Numerals.{add-one}
@@ -16,9 +16,6 @@ module _ (z : Shape) (r : ℕ) (row : ℕ → ℕ) (a : List ℕ) where
   pub row_next : (k : ℕ) → row_words z r row (k + 1) a ≡ word_set z (row_words z r row k a) r (3 + k) (row k)
   unfolding row_words
   row_next k = rw add-one
-
-  pub row_end : (b : List ℕ) (k n : ℕ) → k ≤ n → n ≤ k → b ≡ row_words z r row k a → b ≡ row_words z r row n a
-  row_end b k n l m e = let q : k ≡ n = omega arith in rw (sym q) e
 
 -- only what the row has at the places that are written matters
 pub row_same : (z : Shape) (r : ℕ) (f g : ℕ → ℕ) (a : List ℕ) (n : ℕ) → ((k : ℕ) → k < n → f k ≡ g k)

@@ -6,6 +6,7 @@ ghost use Rattle.cells.specs.Mirrors.{listed, fill_entry_words, row_words, fill_
 
 use layout::{Shape, words};
 
+#[tactic(auto, using(layout::proofs::ColumnLaws::has_entry), unfolding(crate::specs::Mirrors::fill_entry_words))]
 pub fn fill_entry(
     a: &mut [u64],
     z: Shape,
@@ -28,18 +29,18 @@ pub fn fill_entry(
 }
 
 // The children of a branch, as many as the degree.
+#[tactic(auto, using(crate::proofs::RowLaws::row_none, crate::proofs::RowLaws::row_next, layout::proofs::ColumnLaws::has_branch))]
 fn fill_row(a: &mut [u64], z: Shape, r: u64, row: &[u64])
     requires lent { Lent z a.old }
     requires row_fills_branch { (names z r ≡ true) × (kind_of r ≡ 0) × (z.degree ≤ length row.now) }
     ensures { a.new ≡ row_words z r (listed row.now) z.degree a.old }
 {
-    let mut k = 0;
-    while k < z.degree {
+    for k in 0..z.degree {
         words::set_word(&mut *a, z, r, words::CHILDREN + k, row[k as usize]);
-        k += 1;
     }
 }
 
+#[tactic(auto, using(layout::proofs::ColumnLaws::has_low), unfolding(crate::specs::Mirrors::fill_branch_words))]
 pub fn fill_branch(a: &mut [u64], z: Shape, r: u64, depth: u64, bitmap: u64, row: &[u64])
     requires lent { Lent z a.old }
     requires row_fills_branch { (names z r ≡ true) × (kind_of r ≡ 0) × (z.degree ≤ length row.now) }
@@ -51,6 +52,7 @@ pub fn fill_branch(a: &mut [u64], z: Shape, r: u64, depth: u64, bitmap: u64, row
 }
 
 // A reference that a cell holds from now on at its place `k`.
+#[tactic(auto, using(layout::proofs::ColumnLaws::has_kid, layout::proofs::ColumnLaws::refs_few))]
 pub fn put_in(a: &mut [u64], z: Shape, r: u64, k: u64, v: u64)
     requires lent { Lent z a.old }
     requires has_ref { k < refs z r }
@@ -61,6 +63,7 @@ pub fn put_in(a: &mut [u64], z: Shape, r: u64, k: u64, v: u64)
 }
 
 // Reference `k` of a cell, which becomes 0: an entry's next, or one of a branch's children.
+#[tactic(auto, using(layout::proofs::ColumnLaws::has_kid, layout::proofs::ColumnLaws::refs_few, layout::proofs::ColumnLaws::kid_in))]
 pub fn take_out(a: &mut [u64], z: Shape, r: u64, k: u64) -> u64
     requires lent { Lent z a.old }
     requires has_ref { k < refs z r }

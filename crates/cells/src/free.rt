@@ -8,27 +8,20 @@ use layout::{Shape, words};
 
 // Whether the first of a free chain is what it should be. On a sound arena only the end of the chain is refused; on any
 // other this keeps a cell that is in use from being written over.
+#[tactic(auto, using(layout::proofs::ColumnLaws::has_low), unfolding(crate::specs::Mirrors::takeable))]
 fn may_take(a: &[u64], z: Shape, kind: u64, r: u64) -> bool
     requires lent { Lent z a.now }
     requires is_kind { kind < 2 }
     ensures { result ≡ takeable z a.now kind r }
 {
-    if words::is_cell(z, r) {
-        if r % 2 == kind {
-            if words::word(a, z, r, words::COUNT) == 0 {
-                words::kind_word(a, z, words::IN_USE, kind) < words::cells_of(z, kind)
-            } else {
-                false
-            }
-        } else {
-            false
-        }
-    } else {
-        false
-    }
+    words::is_cell(z, r)
+        && r % 2 == kind
+        && words::word(a, z, r, words::COUNT) == 0
+        && words::kind_word(a, z, words::IN_USE, kind) < words::cells_of(z, kind)
 }
 
 // A cell that may be taken leaves its chain, with a count of 1 and all else 0.
+#[tactic(auto, using(crate::proofs::TakeLaws::takeable_says, layout::proofs::ColumnLaws::has_low, layout::proofs::OffsetLaws::cells_few), unfolding(crate::specs::Mirrors::cell_taken))]
 fn take_cell(a: &mut [u64], z: Shape, kind: u64, r: u64)
     requires lent { Lent z a.old }
     requires is_takeable { (kind < 2) × (takeable z a.old kind r ≡ true) }
@@ -43,6 +36,7 @@ fn take_cell(a: &mut [u64], z: Shape, kind: u64, r: u64)
 }
 
 // The first free cell of a kind is taken. Answers its reference, or 0 where there is none to take.
+#[tactic(auto, using(crate::proofs::TakeLaws::taken_some, crate::proofs::TakeLaws::taken_none, crate::proofs::TakeLaws::take_words_lem, crate::proofs::TakeLaws::take_words_none))]
 pub fn take(a: &mut [u64], z: Shape, kind: u64) -> u64
     requires lent { Lent z a.old }
     requires is_kind { kind < 2 }
@@ -59,6 +53,7 @@ pub fn take(a: &mut [u64], z: Shape, kind: u64) -> u64
 }
 
 // The words of a cell that are no references become 0.
+#[tactic(auto, using(layout::proofs::ColumnLaws::has_low, layout::proofs::ColumnLaws::has_entry), unfolding(crate::specs::Mirrors::blank_words))]
 fn blank(a: &mut [u64], z: Shape, r: u64)
     requires lent { Lent z a.old }
     requires is_cell { names z r ≡ true }
@@ -74,6 +69,7 @@ fn blank(a: &mut [u64], z: Shape, r: u64)
 }
 
 // A cell that holds no reference any more becomes the first of its free chain.
+#[tactic(auto, using(layout::proofs::ColumnLaws::has_low), unfolding(crate::specs::Mirrors::give_back_words))]
 pub fn give_back(a: &mut [u64], z: Shape, r: u64)
     requires lent { Lent z a.old }
     requires is_cell { names z r ≡ true }

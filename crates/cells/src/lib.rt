@@ -12,10 +12,3 @@ pub mod fill;
 pub mod free;
 pub mod shares;
 pub mod slots;
-
-// The lowest slot in which no edition stands.
-#[derive(Clone, Copy)]
-pub enum Slot {
-    At(u64),
-    NoneFree,
-}

@@ -12,25 +12,27 @@ const MOST: u64 = 18446744073709551615;
 pub fn fewer(n: u64) -> u64
     ensures { result ≡ n - 1 }
 {
-    if n == 0 { 0 } else { n - 1 }
+    n.saturating_sub(1)
 }
 
 // One more, where there is such a number.
+#[tactic(auto, unfolding(crate::specs::Mirrors::one_more))]
 pub fn more(n: u64) -> u64
     ensures { result ≡ one_more n }
 {
-    if n < MOST { n + 1 } else { n }
+    n.saturating_add(1)
 }
 
 // How much more one number is than another; none where it is not.
 pub fn less(n: u64, m: u64) -> u64
     ensures { result ≡ n - m }
 {
-    if m < n { n - m } else { 0 }
+    n.saturating_sub(m)
 }
 
 // One more word will name the cell, for a loop over many references: the table is that of the two kinds. A count that cannot
 // rise stays: no sound arena has one.
+#[tactic(auto, using(layout::proofs::ColumnLaws::has_low), unfolding(crate::specs::Mirrors::share_words))]
 pub fn share_by(a: &mut [u64], z: Shape, t: &[u64], r: u64)
     requires { Lent z a.old × (t.now ≡ table_of z) }
     ensures { a.new ≡ share_words z a.old r }
@@ -53,6 +55,7 @@ pub fn share(a: &mut [u64], z: Shape, r: u64)
 }
 
 // One word fewer names the cell.
+#[tactic(auto, using(layout::proofs::ColumnLaws::has_low))]
 pub fn unshare(a: &mut [u64], z: Shape, r: u64)
     requires lent { Lent z a.old }
     requires is_cell { names z r ≡ true }

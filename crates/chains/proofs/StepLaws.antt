@@ -1,5 +1,5 @@
 -- The writers of chains step by step, as their mirrors have it.
-use Prim.Native.Nat.{ℕ, zero, suc, ◌-◌, ◌<◌}
+use Prim.Native.Nat.{ℕ, zero, suc, ◌+◌, ◌-◌, ◌<◌}
 use mathlib.Core.Path.{◌≡◌, refl, sym, ap, ◌∙◌, subst}
 use mathlib.Core.Bool.{true, false}
 use mathlib.Core.List.{List}
@@ -94,6 +94,13 @@ module _ (z : Shape) (c r : ℕ) (a : List ℕ) where
       rw (e, m, en, ev)
       (then_on (entry_copied z a r) _ (λ o. ne (same_at q ∙ o))
       ∙ ap (λ (s : Wrote). copied_on z n s.at ((columns z a).kid r 0) (put_in_words z s.words c 0 s.at)) (sym q))
+
+  -- in a loop of e turns, at turn t
+  pub on_turn : (e t d next : ℕ) (w v : List ℕ) → t < e → names_kind z 1 r ≡ true → wrote d w ≡ entry_copied z a r → (d ≡ 0 → ⊥)
+      → next ≡ (columns z a).kid r 0 → v ≡ put_in_words z w c 0 d → copied_on z (e - t) c r a ≡ copied_on z (e - (t + 1)) d next v
+  on_turn e t d next w v l named q ne en ev =
+      let m : e - t - 1 ≡ e - (t + 1) = omega arith in
+      on_next (e - t) d next w v (omega arith) named q ne en ev ∙ ap (λ (n : ℕ). copied_on z n d next v) m
 
 -- what was copied last, or stood there before, is an entry
 pub on_names : (z : Shape) (n c r : ℕ) (a : List ℕ) (d : ℕ) (w : List ℕ) → names_kind z 1 c ≡ true → wrote d w ≡ copied_on z n c r a

@@ -22,6 +22,7 @@ use lookup::links;
 const ENTRY: u64 = 1;
 
 // How long the chain is whose front a reference names; 0 where it names no entry.
+#[tactic(auto, using(lookup::proofs::FindLaws::has_part, crate::proofs::StepLaws::length_entry, crate::proofs::StepLaws::length_none))]
 pub fn length(a: &[u64], z: Shape, r: u64) -> u64
     requires { Lent z a.now }
     ensures { result ≡ length_at z (columns z a.now) r }
@@ -47,6 +48,7 @@ fn new_entry(a: &mut [u64], z: Shape, length: u64, hash: u64, key: u64, value: u
 }
 
 // An entry once more. The chain from the copy on is one shorter: an entry behind it is left out.
+#[tactic(auto, using(lookup::proofs::FindLaws::has_part, crate::proofs::StepLaws::copy_is))]
 fn copy_entry(a: &mut [u64], z: Shape, r: u64) -> u64
     requires lent { Lent z a.old }
     requires is_entry { names_kind z 1 r ≡ true }
@@ -61,15 +63,15 @@ fn copy_entry(a: &mut [u64], z: Shape, r: u64) -> u64
 
 // Copies of `count` entries from `from` on, one behind the other, behind the new entry `first`. Answers the last of them.
 // Each is whole before it is put behind the one before it, so that the words hang together all the time.
+#[tactic(auto, using(crate::proofs::StepLaws::entry_refs, crate::proofs::StepLaws::on_over, crate::proofs::StepLaws::on_ends))]
 fn copy_on(a: &mut [u64], z: Shape, count: u64, first: u64, from: u64) -> u64
     requires lent { Lent z a.old }
     requires is_entry { names_kind z 1 first ≡ true }
     ensures { wrote result a.new ≡ copied_on z count first from a.old }
 {
-    let mut left = count;
     let mut last = first;
     let mut r = from;
-    while left > 0 {
+    for _ in 0..count {
         if !links::is_entry(z, r) {
             return 0;
         }
@@ -81,7 +83,6 @@ fn copy_on(a: &mut [u64], z: Shape, count: u64, first: u64, from: u64) -> u64
         fill::put_in(&mut *a, z, last, 0, copy);
         last = copy;
         r = next;
-        left -= 1;
     }
     last
 }

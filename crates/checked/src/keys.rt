@@ -9,15 +9,25 @@ pub fn hash_of(key: u64) -> u64 {
     x ^ (x >> 29)
 }
 
-fn within(n: u64, few: bool) -> u64 {
-    if few { n % 23 } else { n % 61 }
+// How large the arena of a run is, and with it how many keys there are.
+#[derive(Clone, Copy, Debug, PartialEq, Eq)]
+pub enum Size {
+    Large,
+    Small,
+}
+
+fn within(n: u64, size: Size) -> u64 {
+    match size {
+        Size::Large => n % 61,
+        Size::Small => n % 23,
+    }
 }
 
 // The key of a turn, where it inserts and where it removes.
-pub fn inserted(turn: u64, few: bool) -> u64 {
-    within(turn, few)
+pub fn inserted(turn: u64, size: Size) -> u64 {
+    within(turn, size)
 }
 
-pub fn removed(turn: u64, few: bool) -> u64 {
-    within(turn % 64 * 7, few)
+pub fn removed(turn: u64, size: Size) -> u64 {
+    within(turn % 64 * 7, size)
 }

@@ -1,14 +1,15 @@
 //! A run from one edition to the next: two inserts, then a removal, and so on. Every tenth edition is kept until there is no
 //! room.
 use crate::keys;
-use shelf::Updated;
+use crate::keys::Size;
+use shelf::{Refusal, Updated};
 use shown::answer;
 
 pub const SLOTS: u64 = 8;
 
-// Where a run stands: the edition that the next update is made from; how many updates were done, how many were to remove a key
+// Where a run stands, by default before the first update of edition 0: the edition that the next update is made from; how many updates were done, how many were to remove a key
 // that is not there, and how often there was no room. Of the checks, how many found a sound arena; and all that should not be.
-#[derive(Clone, Copy)]
+#[derive(Clone, Copy, Debug, Default)]
 pub struct Run {
     pub edition: u64,
     pub done: u64,
@@ -19,18 +20,6 @@ pub struct Run {
 }
 
 impl Run {
-    // Before the first update of edition 0.
-    pub fn new() -> Self {
-        Run {
-            edition: 0,
-            done: 0,
-            absent: 0,
-            full: 0,
-            sound: 0,
-            others: 0,
-        }
-    }
-
     pub fn checked(mut self, sound: bool) -> Self {
         if sound {
             self.sound = answer::count(self.sound);
@@ -46,13 +35,13 @@ impl Run {
         self
     }
 
-    fn refused(mut self, number: u64) -> Self {
-        if number == 6 {
-            self.absent = answer::count(self.absent);
-        } else if 7 <= number && number <= 9 {
-            self.full = answer::count(self.full);
-        } else {
-            self.others = answer::count(self.others);
+    fn refused(mut self, why: Refusal) -> Self {
+        match why {
+            Refusal::Absent => self.absent = answer::count(self.absent),
+            Refusal::NoSlot | Refusal::NoBranchCells | Refusal::NoEntryCells => {
+                self.full = answer::count(self.full);
+            }
+            _ => self.others = answer::count(self.others),
         }
         self
     }
@@ -62,40 +51,42 @@ impl Run {
 fn make_room(a: &mut [u64], turn: u64, edition: u64) {
     let other = turn % SLOTS;
     if other != edition {
-        shelf::drop(a, other);
+        let _ = shelf::drop(a, other);
     }
 }
 
 // Else the one before is, but for every tenth.
 fn let_go(a: &mut [u64], turn: u64, edition: u64) {
     if turn % 10 != 0 {
-        shelf::drop(a, edition);
+        let _ = shelf::drop(a, edition);
     }
 }
 
-fn update(a: &mut [u64], turn: u64, few: bool, edition: u64) -> Updated {
+fn update(a: &mut [u64], turn: u64, size: Size, edition: u64) -> Result<Updated, Refusal> {
     if turn % 3 == 2 {
-        let key = keys::removed(turn, few);
+        let key = keys::removed(turn, size);
         return shelf::remove(a, edition, keys::hash_of(key), key);
     }
-    let key = keys::inserted(turn, few);
+    let key = keys::inserted(turn, size);
     shelf::insert(a, edition, keys::hash_of(key), key, turn)
 }
 
-// A turn with many keys or few.
-pub fn step(a: &mut [u64], turn: u64, few: bool, run: Run) -> Run {
-    match update(a, turn, few, run.edition) {
-        Updated::Edition {
-            edition,
-            branches: _,
-            entries: _,
-        } => {
+// A turn on an arena of a size.
+pub fn step(a: &mut [u64], turn: u64, size: Size, run: Run) -> Run {
+    match update(a, turn, size, run.edition) {
+        Ok(
+            Updated {
+                edition,
+                branches: _,
+                entries: _,
+            },
+        ) => {
             let_go(a, turn, run.edition);
             run.updated(edition)
         }
-        Updated::Refused(why) => {
+        Err(why) => {
             make_room(a, turn, run.edition);
-            run.refused(why.number())
+            run.refused(why)
         }
     }
 }

@@ -7,7 +7,6 @@ use native.Mathlib.Omega.{arith}
 use lib.ListN.{length, get_or}
 use Rattle.layout.specs.declared.Shape.{Shape}
 use Rattle.layout.specs.Header.{Header, header_of}
-use Rattle.layout.specs.declared.Heading.TheVariants.{Right, Wrong}
 use Rattle.layout.proofs.HeaderLaws.{Header-says}
 use Rattle.layout.specs.Columns.{State, columns}
 use Rattle.arena.specs.Local.{occ}
@@ -24,6 +23,7 @@ use Rattle.checks.specs.Terms.{Judged}
 use Rattle.checks.proofs.Passed.{Passed}
 use Rattle.checks.proofs.SoundLaws.{Passed-Sound}
 use Rattle.checks.proofs.PassedLaws.{sound_Passed}
+use Rattle.std.specs.Prelude.{Some, None}
 
 not_both : {b : Bool} → b ≡ false → b ≡ true → ⊥
 not_both f t = false-true (sym f ∙ t)
@@ -132,7 +132,7 @@ Works-after j k =
     }
 
 -- a header that is read as wrong is that of no shape
-pub no_header : (a : List ℕ) → header_of a ≡ Wrong → (z : Shape) → Header a z → ⊥
+pub no_header : (a : List ℕ) → header_of a ≡ None → (z : Shape) → Header a z → ⊥
 no_header a e z h =
-    let r : header_of a ≡ Right z = (Header-says a z).1 h in
+    let r : header_of a ≡ Some z = (Header-says a z).1 h in
     let n : ◌≡◌ {A = ℕ} 0 1 = cc in omega arith

@@ -22,8 +22,7 @@ use Rattle.audits.proofs.Shown.{ChainAt, FreeChain}
 use Rattle.audits.proofs.FreeLaws.{chain_free}
 use Rattle.audits.proofs.LiveLaws.{live_is, live_cell}
 use Rattle.audits.proofs.CellLaws.{branch_zero, entry_zero, entry_link, branch_deep}
-use Rattle.levels.specs.declared.Seen.TheVariants.{Under}
-use Rattle.levels.specs.Levels.{see_from}
+use Rattle.levels.specs.Levels.{Under, see_from}
 use Rattle.levels.proofs.SeenLaws.{seen_kid, seen_below}
 use Rattle.levels.proofs.SlotLaws.{RootSeen, branch_seen_lem, slot_tested}
 use Rattle.checks.proofs.Passed.{Passed}

@@ -35,9 +35,9 @@ use Rattle.audits.proofs.AllLaws.{below_all}
 use Rattle.audits.proofs.Shown.{ChainAt}
 use Rattle.audits.proofs.EntryLaws.{entry_right_of, key_right_of}
 use Rattle.audits.proofs.FreeLaws.{free_chain}
+use Rattle.std.proofs.Common.{Option}
 use Rattle.levels.specs.declared.Seen.{Seen}
-use Rattle.levels.specs.declared.Seen.TheVariants.{Under}
-use Rattle.levels.specs.Levels.{on_seen, is_seen, see_from, see_at, is_at, branch_seen, level_seen, levels_seen, size_is, root_right, slot_right, slots_right}
+use Rattle.levels.specs.Levels.{Under, on_seen, is_seen, see_from, see_at, is_at, branch_seen, level_seen, levels_seen, size_is, root_right, slot_right, slots_right}
 use Rattle.levels.proofs.Paths.{asked}
 use Rattle.levels.proofs.ShownLaws.{lead_of, shown_seen, columns_named, columns_clip}
 use Rattle.checks.proofs.Passed.{Passed}
@@ -53,7 +53,7 @@ entry_named : (z : Shape) (i : ℕ) → i < z.entries → names_kind z 1 (refere
 unfolding names_kind cells_of
 entry_named z i l = rw (eq-eqb (kind_of (reference 1 i)) 1 (omega arith)) (names_of z 1 i (omega arith) l)
 
-seen_is : (s : Seen) (l n : ℕ) → s ≡ Under l n → is_seen s ≡ true
+seen_is : (s : Option Seen) (l n : ℕ) → s ≡ Under l n → is_seen s ≡ true
 unfolding on_seen
 seen_is s l n e = rw e
 

@@ -26,8 +26,7 @@ use Rattle.arena.proofs.Equivalent.{Header-degree, local_sound}
 use Rattle.audits.specs.Audits.{is_live, EntriesFit}
 use Rattle.audits.proofs.Shown.{ChainAt}
 use Rattle.audits.proofs.EntryLaws.{chain_shown}
-use Rattle.levels.specs.declared.Seen.TheVariants.{Under}
-use Rattle.levels.specs.Levels.{see_from}
+use Rattle.levels.specs.Levels.{Under, see_from}
 use Rattle.levels.proofs.Paths.{path_of, asked, SeenAs}
 use Rattle.levels.proofs.SeenLaws.{seen_shows}
 use Rattle.levels.proofs.SlotLaws.{RootSeen, slot_tested}

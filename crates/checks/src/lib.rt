@@ -11,7 +11,7 @@ ghost use Rattle.checks.specs.Terms.{Judged, Checks};
 
 use audits::{branches, entries, free};
 use layout::Shape;
-use replies::{Checked, Refusal};
+use replies::Refusal;
 
 // Each cell by itself; branches and slots; counts and free chains; and last the keys, since chains are known to end by then.
 fn is_sound(a: &[u64], work: &mut [u64], z: Shape) -> bool
@@ -44,16 +44,16 @@ fn is_sound(a: &[u64], work: &mut [u64], z: Shape) -> bool
     entries::have_own_keys(a, z)
 }
 
-pub fn check(a: &[u64], work: &mut [u64], z: Shape) -> Checked
+pub fn check(a: &[u64], work: &mut [u64], z: Shape) -> Result<(), Refusal>
     requires { Header a.now z }
     ensures { Checks a.now work.old result work.new }
 {
     if (work.len() as u64) < z.branches + z.entries {
-        return Checked::Refused(Refusal::WorkTooShort);
+        return Err(Refusal::WorkTooShort);
     }
     if is_sound(a, &mut *work, z) {
-        return Checked::Sound;
+        return Ok(());
     }
     tallies::clear(work, z);
-    Checked::Refused(Refusal::Damaged)
+    Err(Refusal::Damaged)
 }

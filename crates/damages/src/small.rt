@@ -2,54 +2,73 @@
 //! hash and stand in a chain at the last depth; at degree 2, whose path there would take more cells than the second decision
 //! knows, their hashes differ in a low bit.
 
-// Enough for the path to the last depth, twice.
-pub fn branches(degree: u64) -> u64 {
-    match degree {
-        2 => 10,
-        4 => 64,
-        8 => 46,
-        16 => 34,
-        32 => 28,
-        _ => 24,
-    }
+// An arena of a degree: its branch cells, enough for the path to the last depth, twice; its words; and the hash of the entry
+// that is inserted last.
+#[derive(Clone, Copy, Debug)]
+pub struct Arena {
+    pub degree: u64,
+    pub branches: u64,
+    pub words: usize,
+    last_hash: u64,
 }
+
+const CHAIN: u64 = 0x7000000000000008;
+
+pub const ALL: [Arena; 6] = [
+    Arena {
+        degree: 2,
+        branches: 10,
+        words: 110,
+        last_hash: 0x700000000000000a,
+    },
+    Arena {
+        degree: 4,
+        branches: 64,
+        words: 508,
+        last_hash: CHAIN,
+    },
+    Arena {
+        degree: 8,
+        branches: 46,
+        words: 566,
+        last_hash: CHAIN,
+    },
+    Arena {
+        degree: 16,
+        branches: 34,
+        words: 706,
+        last_hash: CHAIN,
+    },
+    Arena {
+        degree: 32,
+        branches: 28,
+        words: 1040,
+        last_hash: CHAIN,
+    },
+    Arena {
+        degree: 64,
+        branches: 24,
+        words: 1668,
+        last_hash: CHAIN,
+    },
+];
 
 pub const ENTRIES: u64 = 6;
 
 pub const SLOTS: u64 = 4;
 
-// How many words it has.
-pub fn words(degree: u64) -> usize {
-    match degree {
-        2 => 110,
-        4 => 508,
-        8 => 566,
-        16 => 706,
-        32 => 1040,
-        _ => 1668,
-    }
-}
-
-fn second_hash(degree: u64) -> u64 {
-    if degree == 2 {
-        0x700000000000000a
-    } else {
-        0x7000000000000008
-    }
-}
-
 // The next edition in the place of the one that it is made from.
 fn replace(a: &mut [u64], edition: u64, hash: u64, key: u64, value: u64) {
-    shelf::insert(a, edition, hash, key, value);
-    shelf::drop(a, edition);
+    let _ = shelf::insert(a, edition, hash, key, value);
+    let _ = shelf::drop(a, edition);
 }
 
 // Every edition but the first and the last is dropped where the next is made from it.
-pub fn make(a: &mut [u64], degree: u64) {
-    shelf::format(a, degree, branches(degree), ENTRIES, SLOTS);
-    shelf::new_edition(a);
-    shelf::insert(a, 0, 0x26, 1, 10);
-    replace(a, 1, 0x7000000000000008, 4, 40);
+pub fn make(a: &mut [u64], arena: Arena) {
+    let _ = shelf::format(a, arena.degree, arena.branches, ENTRIES, SLOTS);
+    let _ = shelf::new_edition(a);
+    let _ = shelf::insert(a, 0, 0x26, 1, 10);
+    replace(a, 1, CHAIN, 4, 40);
     replace(a, 2, 0x42, 3, 30);
-    shelf::insert(a, 1, second_hash(degree), 5, 50);
+    let _ = shelf::insert(a, 1, arena.last_hash, 5, 50);
 }

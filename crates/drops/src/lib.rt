@@ -5,13 +5,13 @@
 
 ghost use Rattle.std.specs.Prelude.{◌≡◌, ◌<◌};
 ghost use Rattle.layout.specs.Layout.{Lent};
-ghost use Rattle.replies.specs.Answers.{dropped};
+ghost use Rattle.replies.specs.Answers.{cells_answer};
 ghost use Rattle.replies.specs.Outcomes.{leaves};
 ghost use Rattle.drops.specs.Calls.{free_words, free_in, drop_in};
 
 use cells::{shares, slots};
 use layout::{Shape, words};
-use replies::{Dropped, Refusal};
+use replies::{CellCounts, Refusal};
 
 // The slot is emptied first, then its root is let go.
 fn free(a: &mut [u64], z: Shape, edition: u64)
@@ -25,28 +25,28 @@ fn free(a: &mut [u64], z: Shape, edition: u64)
 }
 
 // Both numbers freed are what the counts of the cells in use fell by.
-fn drop_held(a: &mut [u64], z: Shape, edition: u64) -> Dropped
+fn drop_held(a: &mut [u64], z: Shape, edition: u64) -> Result<CellCounts, Refusal>
     requires lent { Lent z a.old }
     requires in_slots { edition < z.slots }
-    ensures { leaves (dropped result) a.new ≡ free_in z a.old edition }
+    ensures { leaves (cells_answer result) a.new ≡ free_in z a.old edition }
 {
     let branches = words::kind_word(&*a, z, words::IN_USE, 0);
     let entries = words::kind_word(&*a, z, words::IN_USE, 1);
     free(&mut *a, z, edition);
-    Dropped::Freed {
+    Ok(CellCounts {
         branches: shares::less(branches, words::kind_word(&*a, z, words::IN_USE, 0)),
         entries: shares::less(entries, words::kind_word(&*a, z, words::IN_USE, 1)),
-    }
+    })
 }
 
 // An edition is let go, with every cell that no other edition reaches.
-pub fn drop(a: &mut [u64], z: Shape, edition: u64) -> Dropped
+pub fn drop(a: &mut [u64], z: Shape, edition: u64) -> Result<CellCounts, Refusal>
     requires { Lent z a.old }
-    ensures { leaves (dropped result) a.new ≡ drop_in z a.old edition }
+    ensures { leaves (cells_answer result) a.new ≡ drop_in z a.old edition }
 {
     if slots::is_held(&*a, z, edition) {
         drop_held(a, z, edition)
     } else {
-        Dropped::Refused(Refusal::NoSuchEdition)
+        Err(Refusal::NoSuchEdition)
     }
 }

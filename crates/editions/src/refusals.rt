@@ -6,16 +6,16 @@ use shown::{answer, lent};
 use std::io;
 
 fn no_slot(rt: &impl Print, a: &mut [u64]) -> io::Result<()> {
-    let made = answer::of_made(shelf::new_edition(a));
-    let shared = answer::of_made(shelf::share(a, 0));
+    let made = answer::number(shelf::new_edition(a));
+    let shared = answer::number(shelf::share(a, 0));
     print::decimal(rt, b"    all held: new answers ", made)?;
     print::decimal(rt, b", share of 0 answers ", shared)
 }
 
 // The edition is of a slot that is not held, or that is not there.
 pub fn no_such_edition(rt: &impl Print, a: &mut [u64], edition: u64) -> io::Result<()> {
-    let shared = answer::of_made(shelf::share(a, edition));
-    let sized = answer::of_counted(shelf::size(a, edition));
+    let shared = answer::number(shelf::share(a, edition));
+    let sized = answer::number(shelf::size(a, edition));
     print::decimal(rt, b", share of ", edition)?;
     print::decimal(rt, b" answers ", shared)?;
     print::decimal(rt, b", size of ", edition)?;
@@ -25,17 +25,17 @@ pub fn no_such_edition(rt: &impl Print, a: &mut [u64], edition: u64) -> io::Resu
 // The four calls on a damaged arena. Three of them have another fault too, no free slot or no such edition, but 4 comes
 // first.
 fn damaged(a: &mut [u64], fours: u64) -> u64 {
-    let made = answer::count_4(fours, answer::of_made(shelf::new_edition(a)));
-    let shared = answer::count_4(made, answer::of_made(shelf::share(a, 4)));
-    let sized = answer::count_4(shared, answer::of_counted(shelf::size(a, 4)));
-    answer::count_4(sized, answer::of_use(shelf::in_use(a)))
+    let made = answer::count_4(fours, answer::number(shelf::new_edition(a)));
+    let shared = answer::count_4(made, answer::number(shelf::share(a, 4)));
+    let sized = answer::count_4(shared, answer::number(shelf::size(a, 4)));
+    answer::count_4(sized, answer::number(shelf::in_use(a)))
 }
 
 // Sums wrap, so that the largest number lowers a word by one.
 fn add(a: &mut [u64], i: usize, n: u64)
     requires { i < length a.old }
 {
-    a[i] = std::num::wrapping_add_u64(a[i], n);
+    a[i] = a[i].wrapping_add(n);
 }
 
 // Words 0 to 7, each raised by one and lowered again. The slice has just the words of the arena, so one more entry cell has
@@ -44,30 +44,29 @@ fn raised(a: &mut [u64]) -> u64
     requires { 8 ≤ length a.old }
 {
     let mut fours = 0;
-    let mut i = 0;
-    while i < 8 {
+    for i in 0..8 {
         add(a, i, 1);
         fours = damaged(a, fours);
         add(a, i, u64::MAX);
-        i += 1;
     }
     fours
 }
 
-fn cut_to(a: &mut [u64], n: usize, fours: u64) -> u64
-    requires { n ≤ length a.old }
-{
-    damaged(&mut a[..n], fours)
+// The calls on the first n words.
+fn cut_to(a: &mut [u64], n: usize, fours: u64) -> u64 {
+    let Some(part) = a.get_mut(..n) else {
+        return fours;
+    };
+    damaged(part, fours)
 }
 
 // No word, one word less than a header and one less than the arena.
-fn cut(a: &mut [u64]) -> u64
-    requires { 12 ≤ length a.old }
-{
-    let short = a.len() - 1;
-    let none = cut_to(a, 0, 0);
-    let header = cut_to(a, 11, none);
-    cut_to(a, short, header)
+fn cut(a: &mut [u64]) -> u64 {
+    let mut fours = 0;
+    for n in [0, 11, a.len().saturating_sub(1)] {
+        fours = cut_to(a, n, fours);
+    }
+    fours
 }
 
 // Every refusal on an arena whose slots are all held. The largest one that is shown has 255 words.

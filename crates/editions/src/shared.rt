@@ -3,7 +3,7 @@ ghost use Rattle.std.specs.Prelude.{◌≤◌, length};
 ghost use Rattle.layout.specs.Layout.{Lent};
 
 use cells::{fill, free, slots};
-use layout::{Heading, Shape, header, words};
+use layout::{Shape, header, words};
 use shown::{answer, lent};
 use std::io;
 
@@ -22,11 +22,11 @@ fn lay_in(a: &mut [u64], z: Shape)
 
 fn lay(rt: &impl Print, a: &mut [u64]) -> io::Result<()> {
     match header::read(&*a) {
-        Heading::Right(z) => {
+        Some(z) => {
             lay_in(a, z);
             Ok(())
         },
-        Heading::Wrong => print::say(rt, b"  NO ARENA\n"),
+        None => print::say(rt, b"  NO ARENA\n"),
     }
 }
 
@@ -60,7 +60,7 @@ pub fn show(rt: &impl Print) -> io::Result<()> {
         b"A share of an edition with a root (degree 16, 3 slots)\n",
     )?;
     let mut a = [0u64; 46];
-    shelf::format(&mut a, 16, 1, 1, 3);
+    let _ = shelf::format(&mut a, 16, 1, 1, 3);
     lay(rt, &mut a)?;
     print::say(rt, b"  laid in slot 0")?;
     say_entry(rt, &a)?;

@@ -29,7 +29,7 @@ fn at_degree(rt: &impl Print, a: &mut [u64], degree: u64) -> io::Result<()>
 {
     print::decimal(rt, b"  degree ", degree)?;
     let answer = shelf::format(a, degree, 3, 5, 4);
-    print::decimal(rt, b": format answers ", answer::of_format(answer))?;
+    print::decimal(rt, b": format answers ", answer::number(answer))?;
     refusals::no_such_edition(rt, a, 0)?;
     print::say(rt, b"\n")?;
     take_slots(rt, a)?;

@@ -5,16 +5,14 @@
 #![tactic(auto)]
 
 ghost use Rattle.std.specs.Prelude.{◌≡◌};
-ghost use Rattle.replies.specs.Answers.{answer, refused, formatted, made, updated, counted, in_use_answer, dropped, checked, found, compared};
+ghost use Rattle.replies.specs.Answers.{Answer, answer, refused, answered, no_values, one_value, truth_value, update_values, cell_values};
 ghost use Rattle.flat.specs.Flat.{held};
 
-use replies::{
-    Checked, Compared, Counted, Dropped, Formatted, Found, InUse, Made, Refusal, Updated,
-};
+use replies::{CellCounts, Refusal, Updated};
 
 // What C sees of an answer.
 #[repr(C)]
-#[derive(Clone, Copy)]
+#[derive(Clone, Copy, Debug, PartialEq, Eq)]
 pub struct Flat {
     pub number: u64,
     pub a: u64,
@@ -25,12 +23,7 @@ pub struct Flat {
 pub fn done(a: u64, b: u64, c: u64) -> Flat
     ensures { held result ≡ answer 0 a b c }
 {
-    Flat {
-        number: 0,
-        a: a,
-        b: b,
-        c: c,
-    }
+    Flat { number: 0, a, b, c }
 }
 
 pub fn of_refusal(why: Refusal) -> Flat
@@ -44,89 +37,60 @@ pub fn of_refusal(why: Refusal) -> Flat
     }
 }
 
-pub fn of_formatted(answer: Formatted) -> Flat
-    ensures { held result ≡ formatted answer }
-{
-    match answer {
-        Formatted::Done => done(0, 0, 0),
-        Formatted::Refused(why) => of_refusal(why),
+// What a call gives where it is done, as three values.
+pub trait Values {
+    ghost values: { Self → Answer };
+
+    fn flat(self) -> Flat
+        ensures { held result ≡ values self };
+}
+
+impl Values for () {
+    ghost values = { no_values };
+
+    fn flat(self) -> Flat {
+        done(0, 0, 0)
     }
 }
 
-pub fn of_made(answer: Made) -> Flat
-    ensures { held result ≡ made answer }
-{
-    match answer {
-        Made::Edition(edition) => done(edition, 0, 0),
-        Made::Refused(why) => of_refusal(why),
+impl Values for u64 {
+    ghost values = { one_value };
+
+    fn flat(self) -> Flat {
+        done(self, 0, 0)
     }
 }
 
-pub fn of_updated(answer: Updated) -> Flat
-    ensures { held result ≡ updated answer }
-{
-    match answer {
-        Updated::Edition {
-            edition,
-            branches,
-            entries,
-        } => done(edition, branches, entries),
-        Updated::Refused(why) => of_refusal(why),
+// 1 for true, 0 for false.
+impl Values for bool {
+    ghost values = { truth_value };
+
+    fn flat(self) -> Flat {
+        done(self as u64, 0, 0)
     }
 }
 
-pub fn of_counted(answer: Counted) -> Flat
-    ensures { held result ≡ counted answer }
-{
-    match answer {
-        Counted::Entries(n) => done(n, 0, 0),
-        Counted::Refused(why) => of_refusal(why),
+impl Values for Updated {
+    ghost values = { update_values };
+
+    fn flat(self) -> Flat {
+        done(self.edition, self.branches, self.entries)
     }
 }
 
-pub fn of_use(answer: InUse) -> Flat
-    ensures { held result ≡ in_use_answer answer }
-{
-    match answer {
-        InUse::Cells { branches, entries } => done(branches, entries, 0),
-        InUse::Refused(why) => of_refusal(why),
+impl Values for CellCounts {
+    ghost values = { cell_values };
+
+    fn flat(self) -> Flat {
+        done(self.branches, self.entries, 0)
     }
 }
 
-pub fn of_dropped(answer: Dropped) -> Flat
-    ensures { held result ≡ dropped answer }
+pub fn of<T: Values>(answer: Result<T, Refusal>) -> Flat
+    ensures { held result ≡ answered T.values answer }
 {
     match answer {
-        Dropped::Freed { branches, entries } => done(branches, entries, 0),
-        Dropped::Refused(why) => of_refusal(why),
-    }
-}
-
-pub fn of_checked(answer: Checked) -> Flat
-    ensures { held result ≡ checked answer }
-{
-    match answer {
-        Checked::Sound => done(0, 0, 0),
-        Checked::Refused(why) => of_refusal(why),
-    }
-}
-
-pub fn of_found(answer: Found) -> Flat
-    ensures { held result ≡ found answer }
-{
-    match answer {
-        Found::Value(value) => done(value, 0, 0),
-        Found::Refused(why) => of_refusal(why),
-    }
-}
-
-// 1 for equal, 0 for not.
-pub fn of_compared(answer: Compared) -> Flat
-    ensures { held result ≡ compared answer }
-{
-    match answer {
-        Compared::Equal => done(1, 0, 0),
-        Compared::Different => done(0, 0, 0),
-        Compared::Refused(why) => of_refusal(why),
+        Ok(given) => given.flat(),
+        Err(why) => of_refusal(why),
     }
 }

@@ -13,10 +13,9 @@ use Rattle.cells.specs.Mirrors.{Wrote, wrote, taken, taken_of, take_words}
 use Rattle.cells.proofs.KeptLaws.{kept_refl, kept_trans, take_Kept, fill_branch_Kept}
 use Rattle.cells.proofs.TakeLaws.{taken_cell}
 use Rattle.cells.proofs.Made.{then_Kept}
-use Rattle.grafts.specs.declared.Onward.{Onward}
-use Rattle.grafts.specs.declared.Onward.TheVariants.{Child, Missing}
 use Rattle.grafts.specs.Grafts.{onward_in, on_onward, stops, branch_made, put_in, child_put, graft_from}
 use Rattle.grafts.proofs.BranchLaws.{row_shared-Kept}
+use Rattle.std.specs.Prelude.{Option, Some, None}
 
 pub branch_kept : (z : Shape) (a : List ℕ) (t b : ℕ) (f : ℕ → ℕ) → Kept z a (branch_made z a t b f).words
 unfolding branch_made
@@ -30,11 +29,11 @@ pub put_Kept : (z : Shape) (h t r x : ℕ) (a : List ℕ) → Kept z a (child_pu
 unfolding child_put put_in
 put_Kept z h t r x a = kept_trans (row_shared-Kept z _ z.degree a) (branch_kept z _ t _ _)
 
-pub below_Kept : {z : Shape} {a : List ℕ} (y : Onward) (leaf : ℕ) (f : ℕ → Wrote) → ((c : ℕ) → Kept z a (f c).words)
+pub below_Kept : {z : Shape} {a : List ℕ} (y : Option ℕ) (leaf : ℕ) (f : ℕ → Wrote) → ((c : ℕ) → Kept z a (f c).words)
     → Kept z a (on_onward y (wrote leaf a) f).words
 unfolding on_onward
-below_Kept {z} {a} Missing leaf f k = kept_refl z a
-below_Kept (Child c) leaf f k = k c
+below_Kept {z} {a} None leaf f k = kept_refl z a
+below_Kept (Some c) leaf f k = k c
 
 pub graft_Kept : (z : Shape) (h leaf : ℕ) (rep : Bool) (n t r : ℕ) (a : List ℕ) → Kept z a (graft_from z h leaf rep n t r a).words
 unfolding graft_from

@@ -28,11 +28,11 @@ use Rattle.arena.proofs.Frames.{Grow-refl, Grow-trans, slots_refl, slots_trans, 
 use Rattle.cells.specs.Mirrors.{Wrote, wrote}
 use Rattle.cells.proofs.KeptLaws.{kept_refl, kept_trans, Kept-Lent}
 use Rattle.cells.proofs.Made.{left, taking, Made, then_on, next_free, one_taken, none_taken}
-use Rattle.grafts.specs.declared.Onward.TheVariants.{Child, Missing}
 use Rattle.grafts.specs.Grafts.{on_onward, onward_in, stops, child_put, below_put, graft_from}
 use Rattle.grafts.proofs.CaseLaws.{is_there, is_there_lem, is_absent, leaf_of, cost_of, missed, met}
 use Rattle.grafts.proofs.PutLaws.{put_means}
 use Rattle.grafts.proofs.SeenLaws.{segment_in, Seen, words_Celled, branch_named, single_named, branch-Seen, single_Seen, none_entry, none_seen, Seen-kept, onward_missing, onward_found, stops_at, stops_never, stops_no_entry}
+use Rattle.std.specs.Prelude.{Some, None}
 
 -- c branches from depth t on: the deepest takes the first free cell
 abbrev pub Names : (ℕ → ℕ) → ℕ → (ℕ → List ℕ) → ℕ → Type 0
@@ -104,12 +104,12 @@ module _ (z : Shape) (h x : ℕ) (there : Bool) (n t r : ℕ) (a : List ℕ) whe
   unfolding graft_from
   graft_stops e = rw e
 
-  graft_Missing : stops z there r ≡ false → onward_in z (columns z a) h t r ≡ Missing
+  graft_Missing : stops z there r ≡ false → onward_in z (columns z a) h t r ≡ None
       → graft_from z h x there (suc n) t r a ≡ below_put z h t r (wrote x a)
   unfolding graft_from on_onward
   graft_Missing e o = rw (e, o)
 
-  graft_found : stops z there r ≡ false → (c : ℕ) → onward_in z (columns z a) h t r ≡ Child c
+  graft_found : stops z there r ≡ false → (c : ℕ) → onward_in z (columns z a) h t r ≡ Some c
       → graft_from z h x there (suc n) t r a ≡ below_put z h t r (graft_from z h x there n (suc t) c a)
   unfolding graft_from on_onward
   graft_found e c o = rw (e, o)

@@ -16,11 +16,11 @@ use Rattle.trie.proofs.InsertCases.{InsertCase, in_chain, replaced, deeper, apar
 use Rattle.trie.proofs.KidsLaws.{child_hit, child_only}
 use Rattle.trie.proofs.PathLaws.{hop_found}
 use Rattle.arena.specs.Shows.{ShowsChain, Shows}
-use Rattle.grafts.specs.declared.Onward.TheVariants.{Child, Missing}
 use Rattle.grafts.specs.declared.Reach.{Reach}
 use Rattle.grafts.specs.Grafts.{on_onward, onward_in, stops, reaches, reach_from}
 use Rattle.grafts.proofs.CaseLaws.{is_there, is_there_lem, is_absent, cost_of, rest_of, missed, met}
 use Rattle.grafts.proofs.SeenLaws.{Seen, Celled, branch_named, single_named, branch-Seen, single_Seen, none_entry, none_seen, onward_missing, onward_found, stops_at, stops_never, stops_no_entry}
+use Rattle.std.specs.Prelude.{Some, None}
 
 -- ONE STEP DOWN
 module _ (z : Shape) (σ : State) (h : ℕ) (there : Bool) (n t r : ℕ) where
@@ -28,11 +28,11 @@ module _ (z : Shape) (σ : State) (h : ℕ) (there : Bool) (n t r : ℕ) where
   unfolding reach_from
   reach_stops e = rw e
 
-  reach_Missing : stops z there r ≡ false → onward_in z σ h t r ≡ Missing → reach_from z σ h there (suc n) t r ≡ reaches (suc t) 0
+  reach_Missing : stops z there r ≡ false → onward_in z σ h t r ≡ None → reach_from z σ h there (suc n) t r ≡ reaches (suc t) 0
   unfolding reach_from on_onward
   reach_Missing e o = rw (e, o)
 
-  reach_found : stops z there r ≡ false → (c : ℕ) → onward_in z σ h t r ≡ Child c
+  reach_found : stops z there r ≡ false → (c : ℕ) → onward_in z σ h t r ≡ Some c
       → reach_from z σ h there (suc n) t r ≡ reach_from z σ h there n (suc t) c
   unfolding reach_from on_onward
   reach_found e c o = rw (e, o)

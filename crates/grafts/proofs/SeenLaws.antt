@@ -27,8 +27,8 @@ use Rattle.lookup.specs.Lookup.{names_kind}
 use Rattle.lookup.proofs.FindLaws.{kind_is, kind_other, none_branch}
 use Rattle.lookup.proofs.Meaning.{live_named, segment_low}
 use Rattle.lookup.proofs.RowLaws.{bit-missing, child_by_bit}
-use Rattle.grafts.specs.declared.Onward.TheVariants.{Child, Missing}
 use Rattle.grafts.specs.Grafts.{kid_bits, kid_row, onward_in, stops}
+use Rattle.std.specs.Prelude.{Some, None}
 
 -- segments are places in a branch
 pub segment_in : (z : Shape) → Allowed z → (t h : ℕ) → segment z.bits t h < z.degree
@@ -140,14 +140,14 @@ Seen-kept {z} {σ} {τ} {t} {r} {ks} g live S =
 
 -- THE WAY ON by the children that are seen
 module _ {z : Shape} {σ : State} {t r : ℕ} {ks : Kids ℕ} (w : Allowed z) (h : ℕ) (S : Seen z σ t r ks) where
-  pub onward_missing : child (segment z.bits t h) ks ≡ missing → onward_in z σ h t r ≡ Missing
+  pub onward_missing : child (segment z.bits t h) ks ≡ missing → onward_in z σ h t r ≡ None
   unfolding onward_in
   onward_missing q =
       let s = segment z.bits t h in
       rw (S.bits, place_Nothing (bitmap ks) s (segment_low z w t h) (bit-missing ks S.asc s q))
 
   pub onward_found : (m : Node ℕ) → child (segment z.bits t h) ks ≡ found m
-      → (c : ℕ) × (onward_in z σ h t r ≡ Child c) × Shows σ m (suc t) c
+      → (c : ℕ) × (onward_in z σ h t r ≡ Some c) × Shows σ m (suc t) c
   unfolding onward_in
   onward_found m q =
       let s = segment z.bits t h in

@@ -15,9 +15,8 @@ use Rattle.counts.specs.Counts.{upd}
 use Rattle.counts.proofs.CountLaws.{upd_same, upd_other}
 use Rattle.segments.specs.Segments.{segment}
 use Rattle.sparse_array.specs.Bitmap.{bit, below}
-use Rattle.sparse_array.specs.declared.Place.{Place}
-use Rattle.sparse_array.specs.declared.Place.TheVariants as P
-use Rattle.sparse_array.specs.Places.{place_of}
+use Rattle.std.specs.Prelude.{Some, None, Ok, Err}
+use Rattle.sparse_array.specs.Places.{Place, place_of}
 use Rattle.sparse_array.proofs.Places.{place_Says}
 use Rattle.sparse_array.proofs.Bitmap.{shl_one, below_le}
 use Rattle.layout.specs.declared.Shape.{Shape}
@@ -35,15 +34,15 @@ use Rattle.cells.proofs.RowLaws.{row_same}
 use Rattle.cells.proofs.StepColumns.{share_none}
 use Rattle.cells.proofs.TakeLaws.{taken_cell}
 use Rattle.cells.proofs.Made.{then_on, then_over, taken_over, taken_on}
-use Rattle.grafts.specs.declared.Onward.TheVariants.{Child, Missing}
 use Rattle.grafts.specs.Grafts.{kid_bits, kid_row, gap_at, child_of, onward_in, on_onward, stops, reaches, reach_from, row_with, row_at, IsRow, NoneFrom, row_shared, branch_made, put_in, child_put, below_put, graft_from}
 use Rattle.grafts.proofs.SeenLaws.{segment_in}
+use Rattle.std.specs.Prelude.{Some, None}
 
 -- the gap that a place tells
 abbrev Gap : Place → ℕ
-Gap (P.At i) = 0
-Gap P.Nothing = 1
-Gap P.Refused = 1
+Gap (Ok (Some i)) = 0
+Gap (Ok None) = 1
+Gap (Err _) = 1
 
 -- A NODE AS CHILDREN
 module _ (z : Shape) (a : List ℕ) (t r : ℕ) where
@@ -92,12 +91,9 @@ gap_few b s g e = omega arith
 module _ (b s : ℕ) where
   -- by where a child stands
   pub gap_by : (p : Place) → p ≡ place_of b s → s < 64 → Gap p ≡ gap_at b s
-  gap_by (P.At i) e l = omega (arith, (place_Says b s (P.At i) e).1)
-  gap_by P.Nothing e l = omega (arith, (place_Says b s P.Nothing e).1)
-  gap_by P.Refused e l = absurd (omega (arith, place_Says b s P.Refused e))
-
-  pub with_none : (g : ℕ) → g ≡ gap_at b s → g ≡ 0 → b ≡ b + gap_at b s * 2 ^ s
-  with_none g e o = rw (sym e ∙ o) (omega arith)
+  gap_by (Ok (Some i)) e l = omega (arith, (place_Says b s (Ok (Some i)) e).1)
+  gap_by (Ok None) e l = omega (arith, (place_Says b s (Ok None) e).1)
+  gap_by (Err x) e l = absurd (omega (arith, place_Says b s (Err x) e))
 
   pub with_one : (g m : ℕ) → g ≡ gap_at b s → (g ≡ 0 → ⊥) → m ≡ 2 ^ s → bit_or b m ≡ b + gap_at b s * 2 ^ s
   with_one g m e ne em =
@@ -127,12 +123,12 @@ module _ (z : Shape) (σ : State) (h : ℕ) (rep : Bool) (d t r : ℕ) where
   unfolding reach_from
   reach_stops l e = let n : d - t ≡ suc (d - (t + 1)) = omega arith in rw (n, e)
 
-  pub reach_Missing : t < d → stops z rep r ≡ false → onward_in z σ h t r ≡ Missing
+  pub reach_Missing : t < d → stops z rep r ≡ false → onward_in z σ h t r ≡ None
       → reach_from z σ h rep (d - t) t r ≡ reaches (t + 1) 0
   unfolding reach_from on_onward
   reach_Missing l e q = let n : d - t ≡ suc (d - (t + 1)) = omega arith in rw (n, e, q, add-one)
 
-  pub reach_on : (c : ℕ) → t < d → stops z rep r ≡ false → onward_in z σ h t r ≡ Child c
+  pub reach_on : (c : ℕ) → t < d → stops z rep r ≡ false → onward_in z σ h t r ≡ Some c
       → reach_from z σ h rep (d - t) t r ≡ reach_from z σ h rep (d - (t + 1)) (t + 1) c
   unfolding reach_from on_onward
   reach_on c l e q = let n : d - t ≡ suc (d - (t + 1)) = omega arith in rw (n, e, q, add-one)
@@ -140,10 +136,6 @@ module _ (z : Shape) (σ : State) (h : ℕ) (rep : Bool) (d t r : ℕ) where
   pub reach_over : d ≤ t → reach_from z σ h rep (d - t) t r ≡ reaches t r
   unfolding reach_from
   reach_over l = let n : d - t ≡ 0 = omega arith in rw n
-
-pub reach_start : (z : Shape) (σ : State) (h : ℕ) (rep : Bool) (d r : ℕ)
-    → reach_from z σ h rep d 0 r ≡ reach_from z σ h rep (d - 0) 0 r
-reach_start z σ h rep d r = let n : d ≡ d - 0 = omega arith in ap (λ (i : ℕ). reach_from z σ h rep i 0 r) n
 
 -- ROWS. Two rows with a word put in at one place differ there alone.
 row_put : (f : ℕ → ℕ) (p g y x k : ℕ) → upd (row_with f p g y) p x k ≡ row_with f p g x k
@@ -160,9 +152,6 @@ IsRow-next f w n v l e R k lk =
     (λ q. ap (λ (j : ℕ). get_or (set w n v) j 0) q ∙ get_or-set_same w n v 0 l ∙ e ∙ ap f (sym q))
     (λ ne. get_or-set_other w n k v 0 (λ q. ne q) ∙ R k (omega (arith, ne)))
     (eq? k n)
-
-pub IsRow-all : (f : ℕ → ℕ) (w : List ℕ) (n d : ℕ) → d ≤ n → IsRow n f w → IsRow d f w
-IsRow-all f w n d l R k lk = R k (omega arith)
 
 -- and is, with x at its place, the whole row
 pub IsRow-put : (f : ℕ → ℕ) (p g x n : ℕ) (w : List ℕ) → p < length w → IsRow n (row_with f p g 0) w → IsRow n (row_with f p g x) (set w p x)
@@ -184,9 +173,6 @@ module _ (z : Shape) (a : List ℕ) where
   pub share_next : (f : ℕ → ℕ) (n : ℕ) (b c : List ℕ) → b ≡ row_shared z f n a → c ≡ share_words z b (f n) → c ≡ row_shared z f (n + 1) a
   unfolding row_shared
   share_next f n b c eb ec = rw add-one (ec ∙ ap (λ (x : List ℕ). share_words z x (f n)) eb)
-
-  pub share_all : (f : ℕ → ℕ) (n d : ℕ) (b : List ℕ) → n ≤ d → d ≤ n → b ≡ row_shared z f n a → b ≡ row_shared z f d a
-  share_all f n d b l m e = let q : n ≡ d = omega arith in rw (sym q) e
 
   pub share_same : (f g : ℕ → ℕ) (n : ℕ) → ((k : ℕ) → k < n → f k ≡ g k) → row_shared z f n a ≡ row_shared z g n a
   unfolding row_shared
@@ -282,14 +268,14 @@ module _ (z : Shape) (h leaf : ℕ) (rep : Bool) (r : ℕ) (a : List ℕ) where
   graft_stops zero t ne e = absurd (ne refl)
   graft_stops (suc n) t ne e = rw e
 
-  pub graft_Missing : (n t : ℕ) (s : Wrote) → (n ≡ 0 → ⊥) → stops z rep r ≡ false → onward_in z (columns z a) h t r ≡ Missing
+  pub graft_Missing : (n t : ℕ) (s : Wrote) → (n ≡ 0 → ⊥) → stops z rep r ≡ false → onward_in z (columns z a) h t r ≡ None
       → s ≡ below_put z h t r (wrote leaf a) → s ≡ graft_from z h leaf rep n t r a
   unfolding graft_from on_onward
   graft_Missing zero t s ne e q p = absurd (ne refl)
   graft_Missing (suc n) t s ne e q p = rw (e, q) p
 
   pub graft_Child : (d n t c x : ℕ) (w : List ℕ) (s : Wrote) → (n ≡ 0 → ⊥) → n ≤ d → t ≡ d - n → stops z rep r ≡ false
-      → onward_in z (columns z a) h t r ≡ Child c
+      → onward_in z (columns z a) h t r ≡ Some c
       → wrote x w ≡ graft_from z h leaf rep (n - 1) (d - (n - 1)) c a → s ≡ below_put z h t r (wrote x w)
       → s ≡ graft_from z h leaf rep n t r a
   unfolding graft_from on_onward

@@ -1,19 +1,15 @@
 -- The new path of an update, on any words: document 01, "Insert at a missing child places a single entry there .. Above depth D,
 -- at another key, branches are made until the segments differ; the old entry is shared", followed through the columns of an
 -- arena. On an edition this is what the trie's own definition makes (proofs/Meaning.antt).
-use Rattle.std.specs.Prelude.{ℕ, zero, suc, ◌+◌, ◌-◌, ◌*◌, ◌^◌, ◌≤◌, ◌<◌, ◌≡◌, Bool, false, cond, List, eqb, ltb, length, get_or}
+use Rattle.std.specs.Prelude.{ℕ, zero, suc, ◌+◌, ◌-◌, ◌*◌, ◌^◌, ◌≤◌, ◌<◌, ◌≡◌, Bool, false, cond, List, eqb, ltb, length, get_or, Option, Some, None, Ok, Err}
 use Rattle.counts.specs.Counts.{upd}
 use Rattle.segments.specs.Segments.{segment}
 use Rattle.sparse_array.specs.Bitmap.{bit, below}
-use Rattle.sparse_array.specs.declared.Place.{Place}
-use Rattle.sparse_array.specs.declared.Place.TheVariants as P
-use Rattle.sparse_array.specs.Places.{place_of}
+use Rattle.sparse_array.specs.Places.{Place, place_of}
 use Rattle.layout.specs.declared.Shape.{Shape}
 use Rattle.layout.specs.Columns.{State, columns}
 use Rattle.lookup.specs.Lookup.{names_kind}
 use Rattle.cells.specs.Mirrors.{Wrote, wrote, and_then, taken, share_words, fill_branch_words}
-use Rattle.grafts.specs.declared.Onward.{Onward}
-use Rattle.grafts.specs.declared.Onward.TheVariants.{Child, Missing}
 use Rattle.grafts.specs.declared.Reach.{Reach}
 
 -- A NODE AS CHILDREN of a branch at depth t: a branch's own; an entry is its own only child, at its hash's segment; else none
@@ -29,17 +25,17 @@ abbrev pub gap_at : ℕ → ℕ → ℕ
 gap_at b s = 1 - bit b s
 
 -- THE PATH. It goes on to the child at the hash's segment, and stops at the one entry that the new one takes the place of.
-abbrev pub child_of : Shape → State → ℕ → Place → Onward
-child_of z σ r (P.At i) = Child (kid_row z σ r i)
-child_of z σ r P.Nothing = Missing
-child_of z σ r P.Refused = Missing
+abbrev pub child_of : Shape → State → ℕ → Place → Option ℕ
+child_of z σ r (Ok (Some i)) = Some (kid_row z σ r i)
+child_of z σ r (Ok None) = None
+child_of z σ r (Err _) = None
 
-unfoldable pub onward_in : Shape → State → ℕ → ℕ → ℕ → Onward
+unfoldable pub onward_in : Shape → State → ℕ → ℕ → ℕ → Option ℕ
 onward_in z σ h t r = child_of z σ r (place_of (kid_bits z σ t r) (segment z.bits t h))
 
-unfoldable pub on_onward : {A : Type 0} → Onward → A → (ℕ → A) → A
-on_onward Missing x f = x
-on_onward (Child c) x f = f c
+unfoldable pub on_onward : {A : Type 0} → Option ℕ → A → (ℕ → A) → A
+on_onward None x f = x
+on_onward (Some c) x f = f c
 
 unfoldable pub stops : Shape → Bool → ℕ → Bool
 stops z replaced r = cond replaced (names_kind z 1 r) false

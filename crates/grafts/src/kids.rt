@@ -6,7 +6,6 @@ ghost use Rattle.grafts.specs.Grafts.{kid_bits, kid_row, gap_at};
 
 use layout::{Shape, words};
 use lookup::links;
-use sparse_array::Place;
 
 // The bitmap, at a depth.
 pub fn bits(a: &[u64], z: Shape, depth: u64, r: u64) -> u64
@@ -43,15 +42,16 @@ pub fn gap(bits: u64, segment: u64) -> u64
     ensures { result ≡ gap_at bits segment }
 {
     match sparse_array::map_index(bits, segment) {
-        Place::At(_) => 0,
-        Place::Nothing => 1,
-        Place::Refused => 1,
+        Ok(Some(_)) => 0,
+        Ok(None) => 1,
+        Err(_) => 1,
     }
 }
 
 // The bitmap with a segment's bit set, which it lacks where there is a gap.
 pub fn with(bits: u64, segment: u64, gap: u64) -> u64
-    requires { (segment < 64) × (gap ≡ gap_at bits segment) }
+    requires in_bitmap { segment < 64 }
+    requires gap_is { gap ≡ gap_at bits segment }
     ensures { result ≡ bits + gap_at bits segment * 2 ^ segment }
 {
     if gap == 0 {

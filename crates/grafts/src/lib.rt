@@ -21,17 +21,9 @@ ghost use Rattle.grafts.specs.Grafts.{stops, onward_in, reach_from, IsRow, Blank
 use cells::{fill, free, shares};
 use layout::{Shape, table, words};
 use lookup::links;
-use sparse_array::Place;
 
 // The kind of a branch cell.
 const BRANCH: u64 = 0;
-
-// Where the path of a hash goes on from a node.
-#[derive(Clone, Copy)]
-pub enum Onward {
-    Child(u64),
-    Missing,
-}
 
 // How many branches the path of a new entry has, and which chain stands at its end already: 0 where none does, and where
 // the entry takes the place of a single one.
@@ -48,16 +40,17 @@ fn is_end(z: Shape, replaced: bool, r: u64) -> bool
     replaced && links::is_entry(z, r)
 }
 
-pub fn follow(a: &[u64], z: Shape, hash: u64, depth: u64, r: u64) -> Onward
+// The child of a node on the path of a hash, where the path goes on.
+pub fn follow(a: &[u64], z: Shape, hash: u64, depth: u64, r: u64) -> Option<u64>
     requires lent { Lent z a.now }
     requires in_depths { depth < z.depths }
     ensures { result ≡ onward_in z (columns z a.now) hash depth r }
 {
     let segment = segments::segment_at(hash, depth, z.bits);
     match sparse_array::map_index(kids::bits(a, z, depth, r), segment) {
-        Place::At(i) => Onward::Child(kids::at(a, z, r, i as u64)),
-        Place::Nothing => Onward::Missing,
-        Place::Refused => Onward::Missing,
+        Ok(Some(i)) => Some(kids::at(a, z, r, i as u64)),
+        Ok(None) => None,
+        Err(_) => None,
     }
 }
 
@@ -67,8 +60,7 @@ pub fn extent(a: &[u64], z: Shape, hash: u64, replaced: bool, root: u64) -> Reac
     ensures { result ≡ reach_from z (columns z a.now) hash replaced z.depths 0 root }
 {
     let mut r = root;
-    let mut depth = 0;
-    while depth < z.depths {
+    for depth in 0..z.depths {
         if is_end(z, replaced, r) {
             return Reach {
                 branches: depth,
@@ -76,20 +68,19 @@ pub fn extent(a: &[u64], z: Shape, hash: u64, replaced: bool, root: u64) -> Reac
             };
         }
         match follow(a, z, hash, depth, r) {
-            Onward::Child(child) => {
+            Some(child) => {
                 r = child;
             }
-            Onward::Missing => {
+            None => {
                 return Reach {
                     branches: depth + 1,
                     behind: 0,
                 };
             }
         }
-        depth += 1;
     }
     Reach {
-        branches: depth,
+        branches: z.depths,
         behind: r,
     }
 }
@@ -103,23 +94,25 @@ fn rise(at: u64, gap: u64, k: u64) -> u64
 
 // The children of a branch in a row, with 0 at the place of the new one. One loop goes over all of them: two that copy words in
 // one piece each are slower, since a row is short and its words were just written.
-fn load_branch(a: &[u64], z: Shape, r: u64, at: u64, gap: u64, row: &mut [u64])
-    requires lent { Lent z a.now × (length row.old ≡ 64) }
-    requires gap_in_branch { (names_kind z 0 r ≡ true) × (at < z.degree) × (gap ≤ 1) }
+fn load_branch(a: &[u64], z: Shape, r: u64, at: u64, gap: u64, row: &mut [u64; 64])
+    requires lent { Lent z a.now }
+    requires is_branch { names_kind z 0 r ≡ true }
+    requires in_row { at < z.degree }
+    requires small_gap { gap ≤ 1 }
     ensures { IsRow z.degree (row_at z (columns z a.now) r at gap 0) row.new }
 {
-    let mut k = 0;
-    while k < z.degree {
+    for k in 0..z.degree {
         row[k as usize] = words::word(a, z, r, words::CHILDREN + k - rise(at, gap, k));
-        k += 1;
     }
     row[at as usize] = 0;
 }
 
 // A row with the children of a node, and with 0 where a child is put among them. The row is all 0 before.
-fn load(a: &[u64], z: Shape, r: u64, at: u64, gap: u64, row: &mut [u64])
-    requires lent { Lent z a.now × Blank row.old }
-    requires gap_in_row { (at < z.degree) × (gap ≤ 1) }
+fn load(a: &[u64], z: Shape, r: u64, at: u64, gap: u64, row: &mut [u64; 64])
+    requires lent { Lent z a.now }
+    requires blank { Blank row.old }
+    requires in_row { at < z.degree }
+    requires small_gap { gap ≤ 1 }
     ensures { IsRow z.degree (row_at z (columns z a.now) r at gap 0) row.new }
 {
     if links::is_branch(z, r) {
@@ -140,15 +133,14 @@ fn load(a: &[u64], z: Shape, r: u64, at: u64, gap: u64, row: &mut [u64])
 
 // How many words at the front of a row hold all that is not 0, so that no more need be shared: `count`, where the words
 // behind are 0, as they are on a sound arena, and else all.
-fn filled(z: Shape, count: u64, row: &[u64]) -> u64
-    requires { Allowed z × (length row.now ≡ 64) }
-    ensures { (result ≤ z.degree) × NoneFrom result z.degree (listed row.now) }
+fn filled(z: Shape, count: u64, row: &[u64; 64]) -> u64
+    requires allowed { Allowed z }
+    ensures in_row { result ≤ z.degree }
+    ensures none_behind { NoneFrom result z.degree (listed row.now) }
 {
     let mut rest: u64 = 0;
-    let mut k = count;
-    while k < z.degree {
-        rest = rest | row[k as usize];
-        k += 1;
+    for k in count..z.degree {
+        rest |= row[k as usize];
     }
     if rest == 0 && count < z.degree {
         count
@@ -158,22 +150,19 @@ fn filled(z: Shape, count: u64, row: &[u64]) -> u64
 }
 
 // The first `n` references of a row are named once more.
-pub fn share_row(a: &mut [u64], z: Shape, row: &[u64], n: u64)
+pub fn share_row(a: &mut [u64], z: Shape, row: &[u64; 64], n: u64)
     requires lent { Lent z a.old }
-    requires row_len { (length row.now ≡ 64) × (n ≤ z.degree) }
+    requires in_row { n ≤ z.degree }
     ensures { a.new ≡ row_shared z (listed row.now) n a.old }
 {
     let t = table::of(z);
-    let mut k = 0;
-    while k < n {
+    for k in 0..n {
         shares::share_by(&mut *a, z, &t, row[k as usize]);
-        k += 1;
     }
 }
 
-pub fn new_branch(a: &mut [u64], z: Shape, depth: u64, bitmap: u64, row: &[u64]) -> u64
-    requires lent { Lent z a.old }
-    requires row_len { length row.now ≡ 64 }
+pub fn new_branch(a: &mut [u64], z: Shape, depth: u64, bitmap: u64, row: &[u64; 64]) -> u64
+    requires { Lent z a.old }
     ensures { wrote result a.new ≡ branch_made z a.old depth bitmap (listed row.now) }
 {
     let r = free::take(&mut *a, z, BRANCH);
@@ -238,10 +227,10 @@ pub fn graft(
     }
     let depth = z.depths - left;
     match follow(&*a, z, hash, depth, r) {
-        Onward::Child(child) => {
+        Some(child) => {
             let below = graft(&mut *a, z, hash, leaf, replaced, left - 1, child);
             put_below(a, z, hash, depth, r, below)
         }
-        Onward::Missing => put_below(a, z, hash, depth, r, leaf),
+        None => put_below(a, z, hash, depth, r, leaf),
     }
 }

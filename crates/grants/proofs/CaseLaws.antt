@@ -8,9 +8,7 @@ use native.Mathlib.Omega.{arith}
 use borrow.Author.Tests.{lt-ltb, le-ltb}
 use Rattle.cases.proofs.Cases.{split, eq?, lt?}
 use Rattle.layout.specs.declared.Shape.{Shape}
-use Rattle.layout.specs.declared.Heading.TheVariants.{Right, Wrong}
 use Rattle.layout.specs.Header.{header_of}
-use Rattle.cells.specs.declared.Slot.TheVariants as S
 use Rattle.cells.specs.Mirrors.{Wrote}
 use Rattle.cells.specs.Slots.{held_slot, free_slot}
 use Rattle.replies.specs.declared.Refusal.{Refusal}
@@ -19,9 +17,9 @@ use Rattle.replies.specs.Answers.{refused}
 use Rattle.replies.specs.Outcomes.{Outcome, leaves, on_header}
 use Rattle.replies.proofs.AnswerLaws.{header_Right, header_Wrong, wrote_none, wrote_some}
 use Rattle.replies.proofs.Tables.{by_free}
-use Rattle.grants.specs.declared.Room.{Room}
-use Rattle.grants.specs.declared.Room.TheVariants.{At, Refused}
 use Rattle.grants.specs.Rooms.{free_cell_count, enough, room_of, on_room, update_in, held_to, hold_to}
+use Rattle.cells.proofs.SlotLaws.{free_slot_in}
+use Rattle.std.specs.Prelude.{Some, None, Result, Ok, Err}
 
 -- what a call knows of an update once it has read: whether the key is as it wants it, how many cells of each kind are taken, and
 -- what it does with a slot
@@ -40,36 +38,36 @@ update_of a e u = on_header (header_of a) (leaves (refused Why.Damaged) a) (λ z
 
 -- THE HEADER
 module _ (a : List ℕ) (e : ℕ) (u : Shape → Update) where
-  pub update_Damaged : header_of a ≡ Wrong → update_of a e u ≡ leaves (refused Why.Damaged) a
+  pub update_Damaged : header_of a ≡ None → update_of a e u ≡ leaves (refused Why.Damaged) a
   update_Damaged q = header_Wrong (header_of a) _ _ q
 
-  pub update_Right : (z : Shape) → header_of a ≡ Right z → update_of a e u ≡ update_by z a e (u z)
+  pub update_Right : (z : Shape) → header_of a ≡ Some z → update_of a e u ≡ update_by z a e (u z)
   update_Right z q = header_Right (header_of a) _ _ z q
 
 -- ROOM
 module _ (z : Shape) (a : List ℕ) (branches entries : ℕ) where
-  pub room_none : free_slot z a ≡ S.NoneFree → room_of z a branches entries ≡ Refused Why.NoSlot
+  pub room_none : free_slot z a ≡ None → room_of z a branches entries ≡ Err Why.NoSlot
   unfolding room_of
   room_none q = rw q
 
-  module _ (s : ℕ) (free : free_slot z a ≡ S.At s) where
-    pub room_few_branches : free_cell_count z a 0 < branches → room_of z a branches entries ≡ Refused Why.NoBranchCells
+  module _ (s : ℕ) (free : free_slot z a ≡ Some s) where
+    pub room_few_branches : free_cell_count z a 0 < branches → room_of z a branches entries ≡ Err Why.NoBranchCells
     unfolding room_of enough
     room_few_branches l = rw (free, lt-ltb (free_cell_count z a 0) branches l)
 
     module _ (fits : branches ≤ free_cell_count z a 0) where
-      pub room_few_entries : free_cell_count z a 1 < entries → room_of z a branches entries ≡ Refused Why.NoEntryCells
+      pub room_few_entries : free_cell_count z a 1 < entries → room_of z a branches entries ≡ Err Why.NoEntryCells
       unfolding room_of enough
       room_few_entries l = rw (free, le-ltb (free_cell_count z a 0) branches fits, lt-ltb (free_cell_count z a 1) entries l)
 
-      pub room_at : entries ≤ free_cell_count z a 1 → room_of z a branches entries ≡ At s
+      pub room_at : entries ≤ free_cell_count z a 1 → room_of z a branches entries ≡ Ok s
       unfolding room_of enough
       room_at l = rw (free, le-ltb (free_cell_count z a 0) branches fits, le-ltb (free_cell_count z a 1) entries l)
 
     -- the tests of the cells, and what is so where there is room
-    pub by_cells : {X : Type 0} → (room_of z a branches entries ≡ Refused Why.NoBranchCells → X)
-        → (room_of z a branches entries ≡ Refused Why.NoEntryCells → X)
-        → (room_of z a branches entries ≡ At s → branches ≤ free_cell_count z a 0 → entries ≤ free_cell_count z a 1 → X) → X
+    pub by_cells : {X : Type 0} → (room_of z a branches entries ≡ Err Why.NoBranchCells → X)
+        → (room_of z a branches entries ≡ Err Why.NoEntryCells → X)
+        → (room_of z a branches entries ≡ Ok s → branches ≤ free_cell_count z a 0 → entries ≤ free_cell_count z a 1 → X) → X
     by_cells no_branches no_entries at =
         ⊎_elim
         (λ l. no_branches (room_few_branches l))
@@ -78,7 +76,7 @@ module _ (z : Shape) (a : List ℕ) (branches entries : ℕ) where
         (lt? (free_cell_count z a 0) branches)
 
   -- where there is room, it is in the lowest free slot
-  pub room_slot : (s : ℕ) → room_of z a branches entries ≡ At s → free_slot z a ≡ S.At s
+  pub room_slot : (s : ℕ) → room_of z a branches entries ≡ Ok s → free_slot z a ≡ Some s
   room_slot s q =
       by_free z a
       (λ f all. let r = room_none f in let m : ◌≡◌ {A = ℕ} 0 1 = cc in absurd (omega arith))
@@ -86,13 +84,16 @@ module _ (z : Shape) (a : List ℕ) (branches entries : ℕ) where
       by_cells t f
       (λ r. let m : ◌≡◌ {A = ℕ} 0 1 = cc in absurd (omega arith))
       (λ r. let m : ◌≡◌ {A = ℕ} 0 1 = cc in absurd (omega arith))
-      (λ r fit_0 fit_1. let m : t ≡ s = cc in f ∙ ap S.At m))
+      (λ r fit_0 fit_1. let m : t ≡ s = cc in f ∙ ap Some m))
 
-pub on_refused : (a : List ℕ) (r : Room) (f : ℕ → Outcome) (why : Refusal) → r ≡ Refused why → on_room a r f ≡ leaves (refused why) a
+pub room_in : (z : Shape) (a : List ℕ) (branches entries s : ℕ) → room_of z a branches entries ≡ Ok s → s < z.slots
+room_in z a branches entries s q = free_slot_in z a s (room_slot z a branches entries s q)
+
+pub on_refused : (a : List ℕ) (r : Result ℕ Refusal) (f : ℕ → Outcome) (why : Refusal) → r ≡ Err why → on_room a r f ≡ leaves (refused why) a
 unfolding on_room
 on_refused a r f why q = rw q
 
-pub on_At : (a : List ℕ) (r : Room) (f : ℕ → Outcome) (s : ℕ) → r ≡ At s → on_room a r f ≡ f s
+pub on_At : (a : List ℕ) (r : Result ℕ Refusal) (f : ℕ → Outcome) (s : ℕ) → r ≡ Ok s → on_room a r f ≡ f s
 unfolding on_room
 on_At a r f s q = rw q
 
@@ -112,16 +113,16 @@ module _ (z : Shape) (a : List ℕ) (e : ℕ) (u : Update) where
       unfolding update_in
       update_goes = rw (held, there)
 
-      pub update_refused : (why : Refusal) → room_of z a u.branches u.entries ≡ Refused why
+      pub update_refused : (why : Refusal) → room_of z a u.branches u.entries ≡ Err why
           → update_by z a e u ≡ leaves (refused why) a
       update_refused why q = update_goes ∙ on_refused a _ u.does why q
 
-      pub update_At : (s : ℕ) → room_of z a u.branches u.entries ≡ At s → update_by z a e u ≡ u.does s
+      pub update_At : (s : ℕ) → room_of z a u.branches u.entries ≡ Ok s → update_by z a e u ≡ u.does s
       update_At s q = update_goes ∙ on_At a _ u.does s q
 
   -- what holds of every refusal, and of what is done with a slot where there is room, holds of the call
   pub either_way : (P : Outcome → Type 0) → ((why : Refusal) → P (leaves (refused why) a))
-      → (held_slot z a e ≡ true → u.wanted ≡ true → (s : ℕ) → free_slot z a ≡ S.At s → u.branches ≤ free_cell_count z a 0
+      → (held_slot z a e ≡ true → u.wanted ≡ true → (s : ℕ) → free_slot z a ≡ Some s → u.branches ≤ free_cell_count z a 0
       → u.entries ≤ free_cell_count z a 1 → P (u.does s))
       → P (update_by z a e u)
   either_way P none some =

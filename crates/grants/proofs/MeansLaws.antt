@@ -24,13 +24,11 @@ use Rattle.arena.proofs.Frames.{other_slots}
 use Rattle.arena.proofs.Equivalent.{held_slot_lem}
 use Rattle.arena.proofs.Shelved.{Local-in, slots_in}
 use Rattle.arena.proofs.Puts.{Beside, beside_keeps, beside_Sound}
-use Rattle.cells.specs.declared.Slot.TheVariants.{At}
 use Rattle.cells.specs.Frame.{Kept}
 use Rattle.cells.specs.Slots.{free_slot}
 use Rattle.cells.proofs.KeptLaws.{Kept-Header}
 use Rattle.cells.proofs.SlotLaws.{held_says, free_slot-Lowest}
 use Rattle.replies.specs.declared.Refusal.{Refusal}
-use Rattle.replies.specs.declared.Updated as R
 use Rattle.replies.specs.Answers as A
 use Rattle.replies.specs.Answers.{Answer, refused, done_taking}
 use Rattle.replies.specs.Outcomes.{Outcome, leaves}
@@ -43,6 +41,8 @@ use Rattle.grants.proofs.InsideLaws.{update_Kept}
 use Rattle.grants.proofs.SlotLaws.{AnswersSlot, update_slot}
 use Rattle.grants.proofs.TableLaws.{UpdateWhen, update_numbered}
 use Rattle.grants.proofs.FreshLaws.{names_of_branches, names_of_entries, Written, free_cell_count_lem, Fresh-branches, Fresh-entries, branches_risen, entries_risen}
+use Rattle.std.specs.Prelude.{Some, Result}
+use Rattle.replies.specs.declared.Updated.{Updated}
 
 -- WHAT AN UPDATE DOES with slot s, from the words a with these free cells and the map m: it is done to its end, and the slot holds
 -- what the step makes of m and of the first free cells
@@ -92,7 +92,7 @@ refusal_Means a z e step S why =
 module _ {a : List ℕ} {e : ℕ} {step : Shape → Step} {u : Shape → Update} (W : Writer a e step u) (S : Sound a) (z : Shape)
     (head : Header a z) where
   -- WHERE THERE IS ROOM
-  module _ (there : (u z).wanted ≡ true) (s : ℕ) (q : free_slot z a ≡ At s) (fit_0 : (u z).branches ≤ free_cell_count z a 0)
+  module _ (there : (u z).wanted ≡ true) (s : ℕ) (q : free_slot z a ≡ Some s) (fit_0 : (u z).branches ≤ free_cell_count z a 0)
       (fit_1 : (u z).entries ≤ free_cell_count z a 1) where
     abbrev free : ℕ → List ℕ
     free = (Local-in a S z head).0
@@ -180,7 +180,7 @@ module _ {a : List ℕ} {e : ℕ} {step : Shape → Step} {u : Shape → Update}
 
 -- THE CONTRACT
 module _ {a : List ℕ} {e : ℕ} {step : Shape → Step} {u : Shape → Update} (W : Writer a e step u) where
-  pub updates : Builds step → (r : R.Updated) (b : List ℕ) → leaves (A.updated r) b ≡ update_of a e u → Updates a e step (update_of a e u) r b
+  pub updates : Builds step → (r : Result Updated Refusal) (b : List ℕ) → leaves (A.update_answer r) b ≡ update_of a e u → Updates a e step (update_of a e u) r b
   updates builds r b q =
       record {
         outcome = q;
@@ -190,17 +190,17 @@ module _ {a : List ℕ} {e : ℕ} {step : Shape → Step} {u : Shape → Update}
         lowest =
             λ z head s nb ne y.
             update_slot z a e (u z) (W.slot z head) s nb ne
-            (ap (λ (o : Outcome). o.answer) (sym (called z head)) ∙ ap A.updated y);
+            (ap (λ (o : Outcome). o.answer) (sym (called z head)) ∙ ap A.update_answer y);
         sound = λ S. (meant S S.shape S.header).sound;
         kept = λ S z head. (meant S z head).kept;
-        new = λ S z head m E s nb ne y. (meant S z head).new m E s nb ne (ap A.updated y);
-        others = λ S z head s nb ne y. (meant S z head).others s nb ne (ap A.updated y);
+        new = λ S z head m E s nb ne y. (meant S z head).new m E s nb ne (ap A.update_answer y);
+        others = λ S z head s nb ne y. (meant S z head).others s nb ne (ap A.update_answer y);
       }
     where
-      called : (z : Shape) → Header a z → leaves (A.updated r) b ≡ update_by z a e (u z)
+      called : (z : Shape) → Header a z → leaves (A.update_answer r) b ≡ update_by z a e (u z)
       called z head = q ∙ update_Right a e u z ((Header-says a z).1 head)
 
-      meant : Sound a → (z : Shape) → Header a z → Means a z e (step z) (leaves (A.updated r) b)
+      meant : Sound a → (z : Shape) → Header a z → Means a z e (step z) (leaves (A.update_answer r) b)
       meant S z head = subst (λ (o : Outcome). Means a z e (step z) o) (sym (called z head)) (update_Means W S z head builds)
 
   -- and its table on a sound arena, where m is the map that edition e holds, if it is held: exactly by what 6 says and by what the

@@ -8,8 +8,6 @@ use mathlib.Core.Logic.{◌⊎◌, ◌↔◌, inl, inr, ⊎_elim}
 use native.Mathlib.Omega.{arith}
 use Rattle.cases.proofs.Cases.{eq?}
 use Rattle.layout.specs.declared.Shape.{Shape}
-use Rattle.layout.specs.declared.Heading.{Heading}
-use Rattle.layout.specs.declared.Heading.TheVariants.{Right, Wrong}
 use Rattle.layout.specs.Header.{Header, header_of}
 use Rattle.layout.proofs.HeaderLaws.{Header-says}
 use Rattle.cells.specs.Mirrors.{Wrote}
@@ -22,6 +20,7 @@ use Rattle.replies.proofs.Tables.{AllHeld, End, Gives, HeaderNumbered, Held, Num
 use Rattle.grants.specs.Rooms.{free_cell_count, hold_to}
 use Rattle.grants.proofs.CaseLaws.{Update, update_by, update_of, by_cells, by_root, update_At, update_refused, update_Damaged, update_Right}
 use Rattle.grants.proofs.TestLaws.{Goes, by_tests, not_Held, absent, no_slot, on_slot, no_branches, no_entries}
+use Rattle.std.specs.Prelude.{Option, Some, None}
 
 -- THE TABLE on any words: its rows 5, 6 and 7, and an update that goes on gives one of three numbers
 abbrev pub AnyWhen : Shape → List ℕ → ℕ → Type 0 → ℕ → ℕ → Type 0
@@ -118,9 +117,9 @@ module _ (a : List ℕ) (e : ℕ) (u : Shape → Update) (does : (z : Shape) (s 
   pub update_Unaltered : (number (update_of a e u) ≡ 0 → ⊥) → number (update_of a e u) < 8 → Unaltered a (update_of a e u)
   update_Unaltered = by (header_of a) refl
     where
-      by : (y : Heading) → header_of a ≡ y → (number call ≡ 0 → ⊥) → number call < 8 → Unaltered a call
-      by Wrong q = rw (update_Damaged a e u q) (λ n l. (refl, refl, refl, refl))
-      by (Right z) q = rw (update_Right a e u z q) (in_Unaltered z a e (u z) (does z) (lacks z))
+      by : (y : Option Shape) → header_of a ≡ y → (number call ≡ 0 → ⊥) → number call < 8 → Unaltered a call
+      by None q = rw (update_Damaged a e u q) (λ n l. (refl, refl, refl, refl))
+      by (Some z) q = rw (update_Right a e u z q) (in_Unaltered z a e (u z) (does z) (lacks z))
 
   module _ (z : Shape) (right : Header a z) where
     called : update_of a e u ≡ update_by z a e (u z)

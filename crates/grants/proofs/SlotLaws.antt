@@ -3,7 +3,6 @@ use Prim.Native.Nat.{ℕ}
 use mathlib.Core.Path.{◌≡◌, ap, ◌∙◌}
 use mathlib.Core.List.{List}
 use Rattle.layout.specs.declared.Shape.{Shape}
-use Rattle.cells.specs.declared.Slot.TheVariants.{At}
 use Rattle.cells.specs.Mirrors.{Wrote}
 use Rattle.cells.specs.Slots.{free_slot}
 use Rattle.replies.specs.declared.Refusal.TheVariants as Why
@@ -12,6 +11,7 @@ use Rattle.replies.specs.Outcomes.{Outcome}
 use Rattle.replies.proofs.AnswerLaws.{not_done}
 use Rattle.grants.specs.Rooms.{held_to, hold_to}
 use Rattle.grants.proofs.CaseLaws.{Update, update_by, either_way, by_root}
+use Rattle.std.specs.Prelude.{Some}
 
 -- where what is done with slot t says that it is done, it says so of t
 abbrev pub AnswersSlot : (ℕ → Outcome) → Type 0
@@ -27,8 +27,8 @@ hold_slot z size branches entries w t s nb ne =
     (held_slot z size branches entries w.at w.words t s nb ne)
 
 pub update_slot : (z : Shape) (a : List ℕ) (e : ℕ) (u : Update) → AnswersSlot u.does → (s branches entries : ℕ)
-    → (update_by z a e u).answer ≡ done_taking s branches entries → free_slot z a ≡ At s
+    → (update_by z a e u).answer ≡ done_taking s branches entries → free_slot z a ≡ Some s
 update_slot z a e u does s branches entries =
-    either_way z a e u (λ (o : Outcome). o.answer ≡ done_taking s branches entries → free_slot z a ≡ At s)
+    either_way z a e u (λ (o : Outcome). o.answer ≡ done_taking s branches entries → free_slot z a ≡ Some s)
     (λ why q. absurd (not_done why s branches entries q))
-    (λ held there t free fit_0 fit_1 q. free ∙ ap At (does t s branches entries q))
+    (λ held there t free fit_0 fit_1 q. free ∙ ap Some (does t s branches entries q))

@@ -8,7 +8,6 @@ use mathlib.Core.Logic.{◌↔◌, ⊎_elim}
 use Rattle.cases.proofs.Cases.{lt?}
 use Rattle.layout.specs.declared.Shape.{Shape}
 use Rattle.layout.specs.Header.{Header}
-use Rattle.cells.specs.declared.Slot.TheVariants.{At}
 use Rattle.cells.specs.Slots.{free_slot}
 use Rattle.replies.specs.Answers.{done_taking}
 use Rattle.replies.specs.Outcomes.{leaves}
@@ -16,6 +15,7 @@ use Rattle.replies.proofs.Tables.{AllHeld, End, Gives, HeaderNumbered, Held, Num
 use Rattle.grants.specs.Rooms.{free_cell_count}
 use Rattle.grants.proofs.CaseLaws.{Update, update_by, update_of, room_at, update_At}
 use Rattle.grants.proofs.TestLaws.{Goes, by_tests, not_Held, absent, no_slot, on_slot, no_branches, no_entries}
+use Rattle.std.specs.Prelude.{Some}
 
 -- THE TABLE, by what 6 says and how many cells the update takes of each kind. 8 and 9: "more needed than free"
 abbrev pub UpdateWhen : Shape → List ℕ → ℕ → Type 0 → ℕ → ℕ → ℕ → Type 0
@@ -31,7 +31,7 @@ UpdateWhen z a e Lacks branches entries =
 pub record Counted (z : Shape) (a : List ℕ) (u : Update) (branches entries : ℕ) : Type 0 where
   pub branches_are : u.branches ≡ branches
   pub entries_are : u.entries ≡ entries
-  pub done : (s : ℕ) → free_slot z a ≡ At s → u.branches ≤ free_cell_count z a 0 → u.entries ≤ free_cell_count z a 1
+  pub done : (s : ℕ) → free_slot z a ≡ Some s → u.branches ≤ free_cell_count z a 0 → u.entries ≤ free_cell_count z a 1
       → (b : List ℕ) × (u.does s ≡ leaves (done_taking s u.branches u.entries) b)
 
 -- ON A SOUND ARENA what was read says whether the key is as the call wants it, and then the counts

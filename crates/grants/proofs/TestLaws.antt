@@ -8,7 +8,6 @@ use mathlib.Core.Logic.{◌↔◌}
 use native.Mathlib.Omega.{arith}
 use Rattle.cases.proofs.Cases.{split}
 use Rattle.layout.specs.declared.Shape.{Shape}
-use Rattle.cells.specs.declared.Slot.TheVariants.{At}
 use Rattle.cells.specs.Slots.{held_slot, free_slot}
 use Rattle.cells.proofs.SlotLaws.{held_is}
 use Rattle.replies.specs.declared.Refusal.TheVariants as Why
@@ -16,6 +15,7 @@ use Rattle.replies.specs.Outcomes.{Outcome}
 use Rattle.replies.proofs.Tables.{AllHeld, Gives, Held, by_free, by_Held, Gives-refusal, not_Held-Gives}
 use Rattle.grants.specs.Rooms.{free_cell_count}
 use Rattle.grants.proofs.CaseLaws.{Update, update_by, room_none, room_few_branches, room_few_entries, update_Absent, update_not_held, update_refused}
+use Rattle.std.specs.Prelude.{Some}
 
 -- none of 5, 6 and 7, where Lacks says that the key is not as the call wants it
 abbrev pub Goes : Shape → List ℕ → ℕ → Type 0 → Type 0
@@ -38,7 +38,7 @@ module _ (z : Shape) (a : List ℕ) (e : ℕ) (u : Update) {Lacks : Type 0} (lac
   -- the first three tests, with what each says
   pub by_tests : {X : Type 0} → ((Held z a e → ⊥) → X) → (Held z a e × Lacks → X)
       → (Held z a e × (Lacks → ⊥) × AllHeld z a → X)
-      → ((s : ℕ) → free_slot z a ≡ At s → held_slot z a e ≡ true → u.wanted ≡ true → Goes z a e Lacks → X) → X
+      → ((s : ℕ) → free_slot z a ≡ Some s → held_slot z a e ≡ true → u.wanted ≡ true → Goes z a e Lacks → X) → X
   by_tests none absent full on =
       by_Held z a e
       (λ q held.
@@ -63,7 +63,7 @@ module _ (z : Shape) (a : List ℕ) (e : ℕ) (u : Update) {Lacks : Type 0} (lac
       (λ w not. absurd (wants not))
 
   pub on_slot : {X : Type 0} → Goes z a e Lacks
-      → ((s : ℕ) → free_slot z a ≡ At s → held_slot z a e ≡ true → u.wanted ≡ true → X) → X
+      → ((s : ℕ) → free_slot z a ≡ Some s → held_slot z a e ≡ true → u.wanted ≡ true → X) → X
   on_slot (held, wants, some) f =
       by_tests (λ n. absurd (n held)) (λ w. absurd (wants w.1)) (λ w. absurd (some w.2)) (λ s q h w g. f s q h w)
 

@@ -1,40 +1,37 @@
 -- The call that insert, change and remove have in common, on any words: document 01, "Answer numbers", its tests 5 to 9 in its
 -- order. Then comes what the call writes, which is an update's own, but for its end: the slot that holds the new root.
-use Rattle.std.specs.Prelude.{ℕ, ◌-◌, Bool, cond, List, ltb}
+use Rattle.std.specs.Prelude.{ℕ, ◌-◌, Bool, cond, List, ltb, Option, Some, None, Result, Ok, Err}
 use Rattle.layout.specs.declared.Shape.{Shape}
 use Rattle.layout.specs.Layout.{cells_of}
 use Rattle.layout.specs.Columns.{by_kind, set_slot_words}
-use Rattle.cells.specs.declared.Slot.{Slot}
-use Rattle.cells.specs.declared.Slot.TheVariants as S
 use Rattle.cells.specs.Mirrors.{Wrote}
 use Rattle.cells.specs.Slots.{held_slot, free_slot}
 use Rattle.replies.specs.declared.Refusal.TheVariants as Why
 use Rattle.replies.specs.Answers.{refused, done_taking}
 use Rattle.replies.specs.Outcomes.{Outcome, leaves, on_wrote}
-use Rattle.grants.specs.declared.Room.{Room}
-use Rattle.grants.specs.declared.Room.TheVariants.{At, Refused}
+use Rattle.replies.specs.declared.Refusal.{Refusal}
 
 -- "Free cells" are those of a kind that are not in use
 unfoldable pub free_cell_count : Shape → List ℕ → ℕ → ℕ
 free_cell_count z a k = cells_of z k - by_kind a 10 k
 
 -- 8 and 9: "more needed than free"
-unfoldable pub enough : Shape → List ℕ → ℕ → ℕ → ℕ → Room
+unfoldable pub enough : Shape → List ℕ → ℕ → ℕ → ℕ → Result ℕ Refusal
 enough z a branches entries s =
-    cond (ltb (free_cell_count z a 0) branches) (Refused Why.NoBranchCells)
-    (cond (ltb (free_cell_count z a 1) entries) (Refused Why.NoEntryCells) (At s))
+    cond (ltb (free_cell_count z a 0) branches) (Err Why.NoBranchCells)
+    (cond (ltb (free_cell_count z a 1) entries) (Err Why.NoEntryCells) (Ok s))
 
 -- 7: "a new edition wanted, all S held"; else "the lowest free slot"
-abbrev pub room_by : Shape → List ℕ → ℕ → ℕ → Slot → Room
-room_by z a branches entries S.NoneFree = Refused Why.NoSlot
-room_by z a branches entries (S.At s) = enough z a branches entries s
+abbrev pub room_by : Shape → List ℕ → ℕ → ℕ → Option ℕ → Result ℕ Refusal
+room_by z a branches entries None = Err Why.NoSlot
+room_by z a branches entries (Some s) = enough z a branches entries s
 
-unfoldable pub room_of : Shape → List ℕ → ℕ → ℕ → Room
+unfoldable pub room_of : Shape → List ℕ → ℕ → ℕ → Result ℕ Refusal
 room_of z a branches entries = room_by z a branches entries (free_slot z a)
 
-unfoldable pub on_room : List ℕ → Room → (ℕ → Outcome) → Outcome
-on_room a (At s) f = f s
-on_room a (Refused why) f = leaves (refused why) a
+unfoldable pub on_room : List ℕ → Result ℕ Refusal → (ℕ → Outcome) → Outcome
+on_room a (Ok s) f = f s
+on_room a (Err why) f = leaves (refused why) a
 
 -- THE CALL. 5: "number not below S, or not held"; 6, where the key is not as the call wants it; then room for so many cells of each
 -- kind; and what the call does with a slot s is f s.

@@ -1,6 +1,6 @@
 -- What insert, change and remove promise alike: the answer and every word that they leave, and what that means on a sound arena.
 -- What stands in quotes is document 01's.
-use Rattle.std.specs.Prelude.{ℕ, ◌+◌, ◌≤◌, ◌<◌, ◌≡◌, true, List}
+use Rattle.std.specs.Prelude.{ℕ, ◌+◌, ◌≤◌, ◌<◌, ◌≡◌, true, List, Some, Result}
 use Rattle.trie.specs.Trie.{Map, Updated, updated}
 use Rattle.trie.specs.Cells.{Taken}
 use Rattle.layout.specs.declared.Shape.{Shape}
@@ -9,13 +9,13 @@ use Rattle.layout.specs.Header.{Header}
 use Rattle.layout.specs.Columns.{columns}
 use Rattle.arena.specs.Sound.{Sound}
 use Rattle.arena.specs.Holds.{Holds, Keeps, OtherSlots}
-use Rattle.cells.specs.declared.Slot.TheVariants.{At}
 use Rattle.cells.specs.Frame.{Kept}
 use Rattle.cells.specs.Slots.{free_slot}
-use Rattle.replies.specs.declared.Updated as R
-use Rattle.replies.specs.declared.Updated.TheVariants as W
 use Rattle.replies.specs.Answers as A
 use Rattle.replies.specs.Outcomes.{Outcome, leaves}
+use Rattle.replies.specs.declared.Refusal.{Refusal}
+use Rattle.replies.specs.Answers.{took}
+use Rattle.replies.specs.declared.Updated as U
 
 -- n new names g 0, g 1, .. for cells of a kind: cells that were free, no two of them the same
 pub record Fresh (z : Shape) (a : List ℕ) (kind n : ℕ) (g : ℕ → ℕ) : Type 0 where
@@ -47,13 +47,13 @@ pub record NewEdition (z : Shape) (a b : List ℕ) (step : Step) (m : Map ℕ) (
 -- An update of edition e, whose outcome is o. On any words: the answer and every word, words 0 to 7 and those beyond the total as
 -- before, and "the result in the lowest free slot". On a sound arena: sound again, every edition that was held is the same named
 -- trie, the new edition, and no other slot written.
-pub record Updates (a : List ℕ) (e : ℕ) (step : Shape → Step) (o : Outcome) (r : R.Updated) (b : List ℕ) : Type 0 where
-  pub outcome : leaves (A.updated r) b ≡ o
+pub record Updates (a : List ℕ) (e : ℕ) (step : Shape → Step) (o : Outcome) (r : Result U.Updated Refusal) (b : List ℕ) : Type 0 where
+  pub outcome : leaves (A.update_answer r) b ≡ o
   pub inside : (z : Shape) → Header a z → Kept z a b
-  pub lowest : (z : Shape) → Header a z → (s branches entries : ℕ) → r ≡ W.Edition s branches entries → free_slot z a ≡ At s
+  pub lowest : (z : Shape) → Header a z → (s branches entries : ℕ) → r ≡ took s branches entries → free_slot z a ≡ Some s
   pub sound : Sound a → Sound b
   pub kept : Sound a → Keeps a b
   pub new : Sound a → (z : Shape) → Header a z → (m : Map ℕ) → Holds z a e m
-      → (s branches entries : ℕ) → r ≡ W.Edition s branches entries → NewEdition z a b (step z) m s branches entries
+      → (s branches entries : ℕ) → r ≡ took s branches entries → NewEdition z a b (step z) m s branches entries
   pub others : Sound a → (z : Shape) → Header a z
-      → (s branches entries : ℕ) → r ≡ W.Edition s branches entries → OtherSlots z a b s
+      → (s branches entries : ℕ) → r ≡ took s branches entries → OtherSlots z a b s

@@ -8,20 +8,13 @@
 ghost use Rattle.std.specs.Prelude.{◌≡◌, ◌<◌};
 ghost use Rattle.layout.specs.Layout.{Lent};
 ghost use Rattle.cells.specs.Mirrors.{wrote};
-ghost use Rattle.replies.specs.Answers.{updated};
+ghost use Rattle.replies.specs.Answers.{update_answer};
 ghost use Rattle.replies.specs.Outcomes.{leaves};
 ghost use Rattle.grants.specs.Rooms.{free_cell_count, room_of, held_to, hold_to};
 
-use cells::{Slot, shares, slots};
+use cells::{shares, slots};
 use layout::{Shape, words};
 use replies::{Refusal, Updated};
-
-// The slot for a new edition, or why there is no room for it.
-#[derive(Clone, Copy)]
-pub enum Room {
-    At(u64),
-    Refused(Refusal),
-}
 
 // How many cells of a kind are free: those that are not in use.
 fn free_cells(a: &[u64], z: Shape, kind: u64) -> u64
@@ -35,23 +28,20 @@ fn free_cells(a: &[u64], z: Shape, kind: u64) -> u64
     )
 }
 
-// The lowest free slot, where so many cells of each kind are free.
-pub fn find_room(a: &[u64], z: Shape, branches: u64, entries: u64) -> Room
+// The lowest free slot, where so many cells of each kind are free, or why there is no room.
+#[tactic(auto, unfolding(crate::specs::Rooms::room_of, crate::specs::Rooms::enough))]
+pub fn find_room(a: &[u64], z: Shape, branches: u64, entries: u64) -> Result<u64, Refusal>
     requires { Lent z a.now }
     ensures { result ≡ room_of z a.now branches entries }
 {
-    match slots::lowest_free(a, z) {
-        Slot::At(slot) => {
-            if free_cells(a, z, 0) < branches {
-                return Room::Refused(Refusal::NoBranchCells);
-            }
-            if free_cells(a, z, 1) < entries {
-                return Room::Refused(Refusal::NoEntryCells);
-            }
-            Room::At(slot)
-        }
-        Slot::NoneFree => Room::Refused(Refusal::NoSlot),
+    let slot = slots::lowest_free(a, z).ok_or(Refusal::NoSlot)?;
+    if free_cells(a, z, 0) < branches {
+        return Err(Refusal::NoBranchCells);
     }
+    if free_cells(a, z, 1) < entries {
+        return Err(Refusal::NoEntryCells);
+    }
+    Ok(slot)
 }
 
 // A root in a slot, and the answer.
@@ -63,17 +53,17 @@ pub fn hold_edition(
     size: u64,
     branches: u64,
     entries: u64,
-) -> Updated
+) -> Result<Updated, Refusal>
     requires lent { Lent z a.old }
     requires in_slots { slot < z.slots }
-    ensures { leaves (updated result) a.new ≡ held_to z slot size branches entries root a.old }
+    ensures { leaves (update_answer result) a.new ≡ held_to z slot size branches entries root a.old }
 {
     slots::hold(&mut *a, z, slot, root, size);
-    Updated::Edition {
+    Ok(Updated {
         edition: slot,
         branches,
         entries,
-    }
+    })
 }
 
 // The same with the root that was written, which is 0 where no branch cell could be taken; then no slot is taken either.
@@ -85,13 +75,13 @@ pub fn hold_root(
     size: u64,
     branches: u64,
     entries: u64,
-) -> Updated
+) -> Result<Updated, Refusal>
     requires lent { Lent z a.old }
     requires in_slots { slot < z.slots }
-    ensures { leaves (updated result) a.new ≡ hold_to z slot size branches entries (wrote root a.old) }
+    ensures { leaves (update_answer result) a.new ≡ hold_to z slot size branches entries (wrote root a.old) }
 {
     if root == 0 {
-        return Updated::Refused(Refusal::NoBranchCells);
+        return Err(Refusal::NoBranchCells);
     }
     hold_edition(a, z, slot, root, size, branches, entries)
 }

@@ -19,7 +19,7 @@ use lib.Seq.{get_or-set_same, get_or-set_other}
 use Rattle.trie.specs.Entry.{Entry}
 use Rattle.layout.specs.declared.Shape.{Shape}
 use Rattle.lookup.specs.Lookup.{names_kind, entry_at}
-use Rattle.iter.specs.declared.Iter.{Iter}
+use Rattle.iter.specs.declared.Walk.{Walk}
 use Rattle.iter.specs.Met.{onward, first_child, place_of, waits, waiting, Spot, spot, climbed, behind_entry, enters, met_from, still, is_at_entry, Settled}
 
 -- THE STACK
@@ -92,11 +92,11 @@ stops z σ zero r ps e s = unfold met_from in refl
 stops z σ (suc n) r ps e s =
     step_stop z σ n r ps (rw (lt-ltb 0 (suc n) (omega arith)) at e) (s (omega arith))
 
-pub met_stop : (z : Shape) (it : Iter) → is_at_entry z it ≡ false → Settled z it → (a stack : List ℕ) → still z a stack it ≡ []
+pub met_stop : (z : Shape) (w : Walk) → is_at_entry z w ≡ false → Settled z w → (a : List ℕ) → still z a w ≡ []
 unfolding is_at_entry
-met_stop z it e s a stack =
-    stops z (columns z a) it.left it.at (waiting stack it.depth) e
-    (λ l. rw (waiting-length stack it.depth) (s.1 l))
+met_stop z w e s a =
+    stops z (columns z a) w.left w.at (waiting w.stack w.depth) e
+    (λ l. rw (waiting-length w.stack w.depth) (s.1 l))
 
 -- a walk that has come to an entry meets it, and goes on behind it
 meets : (z : Shape) (σ : State) (n r : ℕ) (ps : List ℕ) → 0 < n → names_kind z 1 r ≡ true
@@ -104,14 +104,14 @@ meets : (z : Shape) (σ : State) (n r : ℕ) (ps : List ℕ) → 0 < n → names
 meets z σ zero r ps l e = absurd (omega arith)
 meets z σ (suc n) r ps l e = let k : suc n - 1 ≡ n = omega arith in rw k (step_entry z σ n r ps e)
 
-pub met_entry : (z : Shape) (it : Iter) → is_at_entry z it ≡ true → (a stack : List ℕ)
-    → still z a stack it
-    ≡ entry_at (columns z a) it.at
-    ∷ on_from z (columns z a) (it.left - 1) (behind_entry (columns z a) it.at (waiting stack it.depth))
+pub met_entry : (z : Shape) (w : Walk) → is_at_entry z w ≡ true → (a : List ℕ)
+    → still z a w
+    ≡ entry_at (columns z a) w.at
+    ∷ on_from z (columns z a) (w.left - 1) (behind_entry (columns z a) w.at (waiting w.stack w.depth))
 unfolding is_at_entry
-met_entry z it e a stack =
-    let w = both (ltb 0 it.left) _ e in
-    meets z (columns z a) it.left it.at (waiting stack it.depth) (ltb-true 0 it.left w.0) w.1
+met_entry z w e a =
+    let h = both (ltb 0 w.left) _ e in
+    meets z (columns z a) w.left w.at (waiting w.stack w.depth) (ltb-true 0 w.left h.0) h.1
 
 -- LOOPS. What the walk does to its stack, in the words of the code.
 waiting_top : (stack : List ℕ) (d : ℕ) → 0 < d → waiting stack d ≡ get_or stack (d - 1) 0 ∷ waiting stack (d - 1)
@@ -161,32 +161,32 @@ module _ (σ : State) (stack : List ℕ) where
   climb_over d e = rw e
 
 -- past an entry
-module _ (z : Shape) (a stack : List ℕ) (it : Iter) (here : is_at_entry z it ≡ true) (c : ℕ) (next : c ≡ (columns z a).kid it.at 0)
+module _ (z : Shape) (a : List ℕ) (w : Walk) (here : is_at_entry z w ≡ true) (c : ℕ) (next : c ≡ (columns z a).kid w.at 0)
   where
     pub advance_next : (c ≡ 0 → ⊥)
-        → still z a stack it ≡ entry_at (columns z a) it.at ∷ met_from z (columns z a) (it.left - 1) c (waiting stack it.depth)
+        → still z a w ≡ entry_at (columns z a) w.at ∷ met_from z (columns z a) (w.left - 1) c (waiting w.stack w.depth)
     advance_next ne =
-        let s : behind_entry (columns z a) it.at (waiting stack it.depth) ≡ spot c (waiting stack it.depth)
-        = behind_next (columns z a) it.at _ (λ e. ne (next ∙ e)) ∙ ap (λ (x : ℕ). spot x (waiting stack it.depth)) (sym next) in
-        met_entry z it here a stack ∙ ap (λ (y : Spot). entry_at (columns z a) it.at ∷ on_from z (columns z a) (it.left - 1) y) s
+        let s : behind_entry (columns z a) w.at (waiting w.stack w.depth) ≡ spot c (waiting w.stack w.depth)
+        = behind_next (columns z a) w.at _ (λ e. ne (next ∙ e)) ∙ ap (λ (x : ℕ). spot x (waiting w.stack w.depth)) (sym next) in
+        met_entry z w here a ∙ ap (λ (y : Spot). entry_at (columns z a) w.at ∷ on_from z (columns z a) (w.left - 1) y) s
 
-    pub advance_climb : (r n : ℕ) (ps : List ℕ) → c ≡ 0 → r ≡ (climbed (columns z a) (waiting stack it.depth)).at
-        → ps ≡ (climbed (columns z a) (waiting stack it.depth)).places → n ≡ it.left - 1
-        → still z a stack it ≡ entry_at (columns z a) it.at ∷ met_from z (columns z a) n r ps
+    pub advance_climb : (r n : ℕ) (ps : List ℕ) → c ≡ 0 → r ≡ (climbed (columns z a) (waiting w.stack w.depth)).at
+        → ps ≡ (climbed (columns z a) (waiting w.stack w.depth)).places → n ≡ w.left - 1
+        → still z a w ≡ entry_at (columns z a) w.at ∷ met_from z (columns z a) n r ps
     advance_climb r n ps e er ep en =
-        let s : behind_entry (columns z a) it.at (waiting stack it.depth) ≡ spot r ps
-        = behind_climb (columns z a) it.at _ (sym next ∙ e) ∙ (λ i. spot (sym er i) (sym ep i)) in
-        met_entry z it here a stack
-        ∙ ap₂ (λ (m : ℕ) (y : Spot). entry_at (columns z a) it.at ∷ on_from z (columns z a) m y) (sym en) s
+        let s : behind_entry (columns z a) w.at (waiting w.stack w.depth) ≡ spot r ps
+        = behind_climb (columns z a) w.at _ (sym next ∙ e) ∙ (λ i. spot (sym er i) (sym ep i)) in
+        met_entry z w here a
+        ∙ ap₂ (λ (m : ℕ) (y : Spot). entry_at (columns z a) w.at ∷ on_from z (columns z a) m y) (sym en) s
 
 -- a walk begins with nothing that waits
 pub walk_start : (z : Shape) (σ : State) (n r : ℕ) (stack : List ℕ) → met_from z σ n r (waiting stack 0) ≡ met_from z σ n r []
 unfolding waiting
 walk_start z σ n r stack = refl
 
-pub entry_left : (z : Shape) (it : Iter) → is_at_entry z it ≡ true → 0 < it.left
+pub entry_left : (z : Shape) (w : Walk) → is_at_entry z w ≡ true → 0 < w.left
 unfolding is_at_entry
-entry_left z it e = ltb-true 0 it.left (both (ltb 0 it.left) _ e).0
+entry_left z w e = ltb-true 0 w.left (both (ltb 0 w.left) _ e).0
 
 -- where the walk does not enter
 pub full_stack : (z : Shape) (r d : ℕ) → 65 ≤ d → enters z r d ≡ false
@@ -212,6 +212,6 @@ place_small z a p w ne =
 pub with_rest : {e : Entry} {es xs ys : List Entry} → es ≡ e ∷ xs → ys ≡ xs → es ≡ e ∷ ys
 with_rest {e} p q = p ∙ ap (λ (zs : List Entry). e ∷ zs) (sym q)
 
-pub entry_here : (z : Shape) (it : Iter) → is_at_entry z it ≡ true → names_kind z 1 it.at ≡ true
+pub entry_here : (z : Shape) (w : Walk) → is_at_entry z w ≡ true → names_kind z 1 w.at ≡ true
 unfolding is_at_entry
-entry_here z it e = (both (ltb 0 it.left) _ e).1
+entry_here z w e = (both (ltb 0 w.left) _ e).1

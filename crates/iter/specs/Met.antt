@@ -6,7 +6,7 @@ use Rattle.trie.specs.Entry.{Entry}
 use Rattle.layout.specs.declared.Shape.{Shape}
 use Rattle.layout.specs.Columns.{State, columns}
 use Rattle.lookup.specs.Lookup.{names_kind, entry_at}
-use Rattle.iter.specs.declared.Iter.{Iter}
+use Rattle.iter.specs.declared.Walk.{Walk}
 
 -- PLACES. A branch that waits and its next child, as one number; no branch has 128 children.
 abbrev pub place_of : ℕ → ℕ → ℕ
@@ -65,14 +65,14 @@ visits z = z.branches + z.entries
 abbrev pub met : Shape → List ℕ → ℕ → List Entry
 met z a r = met_from z (columns z a) (visits z) r []
 
--- what an iterator and its stack still meet
-abbrev pub still : Shape → List ℕ → List ℕ → Iter → List Entry
-still z a stack it = met_from z (columns z a) it.left it.at (waiting stack it.depth)
+-- what a walk still meets
+abbrev pub still : Shape → List ℕ → Walk → List Entry
+still z a w = met_from z (columns z a) w.left w.at (waiting w.stack w.depth)
 
 -- whether it has come to an entry
-unfoldable pub is_at_entry : Shape → Iter → Bool
-is_at_entry z it = cond (ltb 0 it.left) (names_kind z 1 it.at) false
+unfoldable pub is_at_entry : Shape → Walk → Bool
+is_at_entry z w = cond (ltb 0 w.left) (names_kind z 1 w.at) false
 
 -- it does not look at a branch that it would enter: it has come to an entry, or meets no more
-abbrev pub Settled : Shape → Iter → Type 0
-Settled z it = (it.depth ≤ 65) × (0 < it.left → enters z it.at it.depth ≡ false)
+abbrev pub Settled : Shape → Walk → Type 0
+Settled z w = (w.depth ≤ 65) × (0 < w.left → enters z w.at w.depth ≡ false)

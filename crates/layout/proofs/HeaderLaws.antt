@@ -11,27 +11,27 @@ use lib.ListN.{length, get_or}
 use borrow.Author.Tests.{eq-eqb, le-leb, eqb-true, leb-true}
 use Rattle.cases.proofs.Cases.{split, both}
 use Rattle.segments.specs.Segments.{row_of}
-use Rattle.segments.specs.declared.DegreeRow.{DegreeRow}
-use Rattle.segments.specs.declared.DegreeRow.TheVariants.{Found, NotInTable}
 use Rattle.layout.specs.declared.Shape.{Shape}
-use Rattle.layout.specs.declared.Shaped.{Shaped}
-use Rattle.layout.specs.declared.Shaped.TheVariants.{Fits, BadDegree, BadSizes}
-use Rattle.layout.specs.declared.Heading.TheVariants.{Right, Wrong}
 use Rattle.layout.specs.Layout.{header_words, branches_at, entries_at, total, most_branches, most_entries, most_slots, Allowed, Lent}
 use Rattle.layout.specs.Header.{Header, within, are_sizes_fit, shape, shape_in, shape_of, are_offsets_fit, right_in, header_of}
+use Rattle.std.specs.Prelude.{Option, Some, None, Result, Ok, Err}
+use Rattle.layout.specs.declared.Misfit.{Misfit}
+use Rattle.layout.specs.declared.Misfit.TheVariants.{BadDegree, BadSizes}
+use Rattle.segments.specs.declared.DegreeRow.{DegreeRow}
+use Rattle.segments.specs.Segments.{found}
 
 -- SHAPES
 module _ (g b n s : ℕ) where
-  pub shape-Fits : (bits depths last : ℕ) → row_of g ≡ Found bits depths last → are_sizes_fit b n s ≡ true
-      → shape_of g b n s ≡ Fits (shape g bits depths b n s)
+  pub shape-Fits : (bits depths last : ℕ) → row_of g ≡ found bits depths last → are_sizes_fit b n s ≡ true
+      → shape_of g b n s ≡ Ok (shape g bits depths b n s)
   unfolding shape_of shape_in
   shape-Fits bits depths last e f = rw (e, f)
 
-  pub shape_sizes : (bits depths last : ℕ) → row_of g ≡ Found bits depths last → are_sizes_fit b n s ≡ false → shape_of g b n s ≡ BadSizes
+  pub shape_sizes : (bits depths last : ℕ) → row_of g ≡ found bits depths last → are_sizes_fit b n s ≡ false → shape_of g b n s ≡ Err BadSizes
   unfolding shape_of shape_in
   shape_sizes bits depths last e f = rw (e, f)
 
-  pub shape_degree : row_of g ≡ NotInTable → shape_of g b n s ≡ BadDegree
+  pub shape_degree : row_of g ≡ None → shape_of g b n s ≡ Err BadDegree
   unfolding shape_of shape_in
   shape_degree e = rw e
 
@@ -52,7 +52,7 @@ pub record Fitting (g b n s : ℕ) (z : Shape) : Type 0 where
   pub entries_is : z.entries ≡ n
   pub slots_is : z.slots ≡ s
 
-fitting : (g b n s bits depths last : ℕ) → row_of g ≡ Found bits depths last → are_sizes_fit b n s ≡ true → Fitting g b n s (shape g bits depths b n s)
+fitting : (g b n s bits depths last : ℕ) → row_of g ≡ found bits depths last → are_sizes_fit b n s ≡ true → Fitting g b n s (shape g bits depths b n s)
 unfolding are_sizes_fit
 fitting g b n s bits depths last e f =
     let u = both (within b most_branches) _ f in
@@ -81,20 +81,26 @@ fitting g b n s bits depths last e f =
       slots_is = refl;
     }
 
-pub Fits-says : (g b n s : ℕ) (z : Shape) → shape_of g b n s ≡ Fits z → Fitting g b n s z
+pub Fits-says : (g b n s : ℕ) (z : Shape) → shape_of g b n s ≡ Ok z → Fitting g b n s z
 Fits-says g b n s z e = by (row_of g) refl
   where
-    by : (o : DegreeRow) → row_of g ≡ o → Fitting g b n s z
-    by (Found bits depths last) r =
+    by : (o : Option DegreeRow) → row_of g ≡ o → Fitting g b n s z
+    by (Some x) r =
+        let bits = x.bits in
+        let depths = x.depths in
+        let last = x.last in
         split (are_sizes_fit b n s)
         (λ f.
-        let same : Fits (shape g bits depths b n s) ≡ Fits z = sym (shape-Fits g b n s bits depths last r f) ∙ e in
+        let same : Ok (shape g bits depths b n s) ≡ Ok z = sym (shape-Fits g b n s bits depths last r f) ∙ e in
         let q : shape g bits depths b n s ≡ z = cc in
         rw (sym q) (fitting g b n s bits depths last r f))
         (λ f. absurd (let m : ◌≡◌ {A = ℕ} 0 1 = cc (shape_sizes g b n s bits depths last r f) in omega arith))
-    by NotInTable r = absurd (let m : ◌≡◌ {A = ℕ} 0 1 = cc (shape_degree g b n s r) in omega arith)
+    by None r = absurd (let m : ◌≡◌ {A = ℕ} 0 1 = cc (shape_degree g b n s r) in omega arith)
 
-pub Fits-is : (z : Shape) → Allowed z → z.stride ≡ 3 → shape_of z.degree z.branches z.entries z.slots ≡ Fits z
+pub shape_Allowed : (g b n s : ℕ) (z : Shape) → shape_of g b n s ≡ Ok z → Allowed z
+shape_Allowed g b n s z e = (Fits-says g b n s z e).allowed
+
+pub Fits-is : (z : Shape) → Allowed z → z.stride ≡ 3 → shape_of z.degree z.branches z.entries z.slots ≡ Ok z
 unfolding are_sizes_fit
 Fits-is z w e =
     shape-Fits z.degree z.branches z.entries z.slots z.bits z.depths w.last w.in_table
@@ -103,7 +109,7 @@ Fits-is z w e =
       within_is z.entries most_entries w.some_entries w.few_entries,
       within_is z.slots most_slots w.some_slots w.few_slots,
     ))
-    ∙ ap Fits (λ i.
+    ∙ ap Ok (λ i.
     record {
       degree = z.degree;
       bits = z.bits;
@@ -119,36 +125,35 @@ Fits-is z w e =
 
 -- HEADERS
 module _ (a : List ℕ) (z : Shape) where
-  pub Right-says : (y : Shaped) → right_in a y ≡ Right z → (y ≡ Fits z) × (are_offsets_fit a z ≡ true)
+  pub Right-says : (y : Result Shape Misfit) → right_in a y ≡ Some z → (y ≡ Ok z) × (are_offsets_fit a z ≡ true)
   unfolding right_in
-  Right-says (Fits x) e =
+  Right-says (Ok x) e =
       split (are_offsets_fit a x)
       (λ f.
-      let q : Right x ≡ Right z = rw f at e in
+      let q : Some x ≡ Some z = rw f at e in
       let same : x ≡ z = cc in
-      (ap Fits same, ap (are_offsets_fit a) (sym same) ∙ f))
-      (λ f. absurd (let q : Wrong ≡ Right z = rw f at e in let m : ◌≡◌ {A = ℕ} 0 1 = cc in omega arith))
-  Right-says BadDegree e = absurd (let m : ◌≡◌ {A = ℕ} 0 1 = cc in omega arith)
-  Right-says BadSizes e = absurd (let m : ◌≡◌ {A = ℕ} 0 1 = cc in omega arith)
+      (ap Ok same, ap (are_offsets_fit a) (sym same) ∙ f))
+      (λ f. absurd (let q : ◌≡◌ {A = Option Shape} None (Some z) = rw f at e in let m : ◌≡◌ {A = ℕ} 0 1 = cc in omega arith))
+  Right-says (Err why) e = absurd (let m : ◌≡◌ {A = ℕ} 0 1 = cc in omega arith)
 
-  pub right_is : (y : Shaped) → y ≡ Fits z → are_offsets_fit a z ≡ true → right_in a y ≡ Right z
+  pub right_is : (y : Result Shape Misfit) → y ≡ Ok z → are_offsets_fit a z ≡ true → right_in a y ≡ Some z
   unfolding right_in
   right_is y e f = rw (e, f)
 
-  pub right_not : (y : Shaped) → y ≡ Fits z → are_offsets_fit a z ≡ false → right_in a y ≡ Wrong
+  pub right_not : (y : Result Shape Misfit) → y ≡ Ok z → are_offsets_fit a z ≡ false → right_in a y ≡ None
   unfolding right_in
   right_not y e f = rw (e, f)
 
-  chosen : (x : Bool) (y : _) → cond x y Wrong ≡ Right z → (x ≡ true) × (y ≡ Right z)
+  chosen : (x : Bool) (y : _) → cond x y None ≡ Some z → (x ≡ true) × (y ≡ Some z)
   chosen true y e = (refl, e)
   chosen false y e = absurd (let m : ◌≡◌ {A = ℕ} 0 1 = cc in omega arith)
 
   -- THE TEST IS THE SENTENCES
-  pub Header-says : (header_of a ≡ Right z) ↔ Header a z
+  pub Header-says : (header_of a ≡ Some z) ↔ Header a z
   unfolding header_of are_offsets_fit
   Header-says = (to, from)
     where
-      to : header_of a ≡ Right z → Header a z
+      to : header_of a ≡ Some z → Header a z
       to e =
           let u = chosen (leb header_words (length a)) _ e in
           let v = chosen (eqb (get_or a 0 0) 1) _ u.1 in
@@ -171,7 +176,7 @@ module _ (a : List ℕ) (z : Shape) where
             long = leb-true _ _ o7.1;
           }
 
-      from : Header a z → header_of a ≡ Right z
+      from : Header a z → header_of a ≡ Some z
       from h =
           rw (le-leb header_words (length a) (omega (arith, h.long)), eq-eqb (get_or a 0 0) 1 h.word_0, h.word_1, h.word_2, h.word_3, h.word_4)
           (right_is _ (Fits-is z h.allowed h.three)
@@ -186,7 +191,10 @@ module _ (a : List ℕ) (z : Shape) where
 pub Header-Lent : (a : List ℕ) (z : Shape) → Header a z → Lent z a
 Header-Lent a z h = record { allowed = h.allowed; long = h.long }
 
+pub header_Lent : (a : List ℕ) (z : Shape) → header_of a ≡ Some z → Lent z a
+header_Lent a z e = Header-Lent a z ((Header-says a z).0 e)
+
 -- and says one shape only
 pub Header-once : (a : List ℕ) (z y : Shape) → Header a z → Header a y → z ≡ y
 Header-once a z y h k =
-    let e : Right z ≡ Right y = sym ((Header-says a z).1 h) ∙ (Header-says a y).1 k in cc
+    let e : Some z ≡ Some y = sym ((Header-says a z).1 h) ∙ (Header-says a y).1 k in cc

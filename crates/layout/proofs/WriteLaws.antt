@@ -8,8 +8,11 @@ use native.Mathlib.Nat.{add-zero, suc-mul}
 use native.Mathlib.Numerals.{add-one}
 use native.Mathlib.Omega.{arith}
 use lib.Dec.{eqb}
-use lib.ListN.{length, set, drop, length-append}
-use lib.Seq.{sets, sets-eq}
+use borrow.Rule.Slice.PartMut.{put_mid, mid_of}
+use Rattle.std.proofs.lemmas.Slice.{put_mid-paste}
+use Rattle.std.proofs.lemmas.List.{length-take, length-drop}
+use lib.ListN.{length, set, take, drop, replicate, length-append}
+use lib.Seq.{sets, sets-eq, take-length}
 use Rattle.layout.specs.declared.Shape.{Shape}
 use Rattle.layout.specs.Layout.{reference, header_words, branches_at, entries_at, total}
 use Rattle.layout.specs.Blank.{zeros, free_cell_words, header, blank}
@@ -18,16 +21,6 @@ pub two_stores : (a : List ℕ) (i v w : ℕ) (vs : List ℕ) → sets (set (set
 two_stores a i v w vs =
     let e : i + 2 ≡ suc (suc i) = omega arith in
     rw (e, add-one i)
-
-pub zeros_first : (a : List ℕ) (i end : ℕ) → i < end → sets (set a i 0) (i + 1) (zeros (end - (i + 1))) ≡ sets a i (zeros (end - i))
-unfolding zeros
-zeros_first a i end l =
-    let e : end - i ≡ suc (end - (i + 1)) = omega arith in
-    rw (e, add-one i)
-
-pub zeros_none : (a : List ℕ) (i end : ℕ) → end ≤ i → sets a i (zeros (end - i)) ≡ a
-unfolding zeros
-zeros_none a i end l = let e : end - i ≡ 0 = omega arith in rw e
 
 sets_append : (l : List ℕ) (i : ℕ) (xs ys : List ℕ) → sets l i (xs ++ ys) ≡ sets (sets l i xs) (i + length xs) ys
 sets_append l i [] ys = rw add-zero
@@ -39,6 +32,25 @@ pub zeros-length : (n : ℕ) → length (zeros n) ≡ n
 unfolding zeros
 zeros-length zero = refl
 zeros-length (suc n) = ap suc (zeros-length n)
+
+zeros_replicate : (n : ℕ) → replicate n 0 ≡ zeros n
+unfolding zeros
+zeros_replicate zero = refl
+zeros_replicate (suc n) = ap (λ (l : List ℕ). 0 ∷ l) (zeros_replicate n)
+
+part_long : (a : List ℕ) (i n k : ℕ) → i + n ≤ length a → k ≡ n → length (mid_of i k a) ≡ n
+part_long a i n k fits e = grind (arith, length-take, length-drop)
+
+-- zeros written over a part of the words at once
+pub zeros_filled : (a b : List ℕ) (i n k : ℕ) → i + n ≤ length a → k ≡ n → b ≡ replicate (length (mid_of i k a)) 0
+    → put_mid i k a b ≡ sets a i (zeros n)
+zeros_filled a b i n k fits e filled =
+    let same : b ≡ zeros n = filled ∙ ap (λ (m : ℕ). replicate m 0) (part_long a i n k fits e) ∙ zeros_replicate n in
+    let size : length (zeros n) ≡ n = zeros-length n in
+    let whole : take n (zeros n) ≡ zeros n = rw size at (take-length {A = ℕ} (zeros n)) in
+    put_mid-paste i k a b (zeros n) n same (sym e) (sym size)
+    ∙ ap (λ (l : List ℕ). take i a ++ l ++ drop (i + n) a) whole
+    ∙ sym (rw size at (sets-eq {A = ℕ} (zeros n) a i (omega arith)))
 
 module _ (k w : ℕ) (a : List ℕ) (at i : ℕ) where
   cell_then : (n : ℕ)

@@ -2,8 +2,8 @@
 -- header says and no call but format changes. All offsets are stated over its stride, the words in a slot, which is three.
 use Rattle.std.specs.Prelude.{ℕ, ◌+◌, ◌-◌, ◌*◌, ◌/◌, ◌%◌, ◌≤◌, ◌≡◌, Bool, false, cond, List, eqb, ltb, length}
 use Rattle.segments.specs.Segments.{row_of}
-use Rattle.segments.specs.declared.DegreeRow.TheVariants.{Found}
 use Rattle.layout.specs.declared.Shape.{Shape}
+use Rattle.segments.specs.Segments.{found}
 
 -- REFERENCES. "0 is none, branch cell i is 2i+2, entry cell i is 2i+3." The kind of a branch is 0, that of an entry 1.
 abbrev pub reference : ℕ → ℕ → ℕ
@@ -68,7 +68,7 @@ most_slots = 4096
 -- the bits and depths are those of the degree's row in the table; a slot has three to five words
 pub record Allowed (z : Shape) : Type 0 where
   pub last : ℕ
-  pub in_table : row_of z.degree ≡ Found z.bits z.depths last
+  pub in_table : row_of z.degree ≡ found z.bits z.depths last
   pub some_branches : 1 ≤ z.branches
   pub few_branches : z.branches ≤ most_branches
   pub some_entries : 1 ≤ z.entries

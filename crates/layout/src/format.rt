@@ -14,12 +14,7 @@ fn zeros(a: &mut [u64], at: usize, n: usize)
     requires { at + n ≤ length a.old }
     ensures { a.new ≡ sets a.old at (zeros n) }
 {
-    let end = at + n;
-    let mut i = at;
-    while i < end {
-        a[i] = 0;
-        i += 1;
-    }
+    a[at..at + n].fill(0);
 }
 
 // The next free reference in cell `i` of `n` free ones: it names the cell behind, and the last has none.
@@ -46,11 +41,9 @@ fn free_cells(a: &mut [u64], at: usize, kind: u64, rest: usize, n: u64)
     ensures { a.new ≡ sets a.old at (free_cell_words kind rest 0 n) }
 {
     let mut here = at;
-    let mut i = 0;
-    while i < n {
+    for i in 0..n {
         free_cell(a, here, next_free(kind, i, n), rest);
         here += 2 + rest;
-        i += 1;
     }
 }
 

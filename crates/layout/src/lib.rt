@@ -22,7 +22,7 @@ pub mod words;
 
 // What the header says and no call but format changes: the degree with its row in the table, how many words a slot has,
 // and how many slots, branch cells and entry cells there are.
-#[derive(Clone, Copy)]
+#[derive(Clone, Copy, Debug, PartialEq, Eq)]
 pub struct Shape {
     pub degree: u64,
     pub bits: u64,
@@ -33,17 +33,9 @@ pub struct Shape {
     pub entries: u64,
 }
 
-// What a degree and three sizes make.
-#[derive(Clone, Copy)]
-pub enum Shaped {
-    Fits(Shape),
+// Why a degree and three sizes make no arena.
+#[derive(Clone, Copy, Debug, PartialEq, Eq)]
+pub enum Misfit {
     BadDegree,
     BadSizes,
-}
-
-// What words 0 to 7 and the slice's length say.
-#[derive(Clone, Copy)]
-pub enum Heading {
-    Right(Shape),
-    Wrong,
 }

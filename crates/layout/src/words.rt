@@ -45,6 +45,7 @@ fn pick(kind: u64, branch: u64, entry: u64) -> u64
 }
 
 // How many cells there are of a kind.
+#[tactic(auto, unfolding(crate::specs::Layout::cells_of))]
 pub fn cells_of(z: Shape, kind: u64) -> u64
     ensures { result ≡ cells_of z kind }
 {
@@ -58,6 +59,7 @@ pub fn width_of(z: Shape, kind: u64) -> u64
     pick(kind, 3 + z.degree, 6)
 }
 
+#[tactic(auto, unfolding(crate::specs::Layout::cells_at))]
 pub fn at_cells(z: Shape, kind: u64) -> u64
     requires { Allowed z }
     ensures { result ≡ cells_at z kind }
@@ -66,6 +68,7 @@ pub fn at_cells(z: Shape, kind: u64) -> u64
 }
 
 // Whether a reference names a cell. References 0 and 1 name none.
+#[tactic(auto, unfolding(crate::specs::Layout::names))]
 pub fn is_cell(z: Shape, r: u64) -> bool
     ensures { result ≡ names z r }
 {

@@ -15,7 +15,7 @@ fn let_go(rt: &impl Print, a: &mut [u64], label: &[u8], edition: u64) -> io::Res
 pub fn show(rt: &impl Print) -> io::Result<()> {
     print::say(rt, b"K1 to K5, let go one by one (degree 16)\n")?;
     let mut a = [0u64; 459];
-    shelf::format(&mut a, 16, 21, 5, 6);
+    let _ = shelf::format(&mut a, 16, 21, 5, 6);
     steps::before(&mut a, 6);
     answer::say_use(rt, b"  K1 to K5 held: in use", &a)?;
     print::say(rt, b"\n")?;

@@ -40,7 +40,7 @@ fn held_again(rt: &impl Print, a: &mut [u64]) -> io::Result<()> {
 pub fn show(rt: &impl Print) -> io::Result<()> {
     print::say(rt, b"Refusals (degree 16, K1 to K5, 7 slots)\n")?;
     let mut a = [0u64; WORDS];
-    shelf::format(&mut a, 16, 21, 5, 7);
+    let _ = shelf::format(&mut a, 16, 21, 5, 7);
     steps::before(&mut a, 6);
     refused(rt, &mut a)?;
     twice(rt, &mut a)?;

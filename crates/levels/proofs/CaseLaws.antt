@@ -20,28 +20,10 @@ use Rattle.lookup.specs.Lookup.{names_kind}
 use Rattle.lookup.proofs.FindLaws.{kind_is, kind_other, kind_none}
 use Rattle.audits.specs.Audits.{all_from, none_from, is_live}
 use Rattle.audits.proofs.AllLaws.{all_on}
-use Rattle.audits.proofs.LiveLaws.{live_is, live_cell}
+use Rattle.audits.proofs.LiveLaws.{live_is}
+use Rattle.std.proofs.Common.{Option}
 use Rattle.levels.specs.declared.Seen.{Seen}
-use Rattle.levels.specs.declared.Seen.TheVariants.{Fault, Under}
-use Rattle.levels.specs.Levels.{on_seen, lead_in, size_in, seen_entry, see_by, same_prefix, fits, closed, ended, branch_by, see_from, see_at, is_at, size_is, root_right, slot_right, kept, Known}
-use Rattle.levels.proofs.LeadLaws.{seen_lead}
-
--- WHAT IS SEEN: its leftmost entry and its size
-pub lead_is : (x : Seen) (l s : ℕ) → x ≡ Under l s → l ≡ lead_in x
-unfolding on_seen
-lead_is x l s e = rw e
-
-pub lead_none : (x : Seen) → x ≡ Fault → 0 ≡ lead_in x
-unfolding on_seen
-lead_none x e = rw e
-
-pub size_is_lem : (x : Seen) (l s : ℕ) → x ≡ Under l s → s ≡ size_in x
-unfolding on_seen
-size_is_lem x l s e = rw e
-
-pub size_none : (x : Seen) → x ≡ Fault → 0 ≡ size_in x
-unfolding on_seen
-size_none x e = rw e
+use Rattle.levels.specs.Levels.{Fault, Under, seen_entry, see_by, same_prefix, fits, closed, ended, branch_by, see_from, see_at, is_at, size_is, root_right, slot_right, kept, Known}
 
 -- ENTRIES, by the chain length m
 module _ (z : Shape) (σ : State) (t r m : ℕ) (em : m ≡ σ.mark r) where
@@ -59,7 +41,7 @@ module _ (z : Shape) (σ : State) (t r m : ℕ) (em : m ≡ σ.mark r) where
 
 -- NODES. What is below a branch at a depth, with n depths left.
 module _ (z : Shape) (σ : State) where
-  unfoldable below : ℕ → ℕ → ℕ → Seen
+  unfoldable below : ℕ → ℕ → ℕ → Option Seen
   below zero t = λ q. Fault
   below (suc n) t = branch_by (see_from z σ n (suc t)) z σ t
 
@@ -190,34 +172,24 @@ module _ (σ : State) (t r c : ℕ) (ec : c ≡ σ.count r) where
   unfolding is_at
   at_used m ne em = rw (ne_eqb (σ.count r) 0 (λ q. ne (ec ∙ q)), em)
 
--- ROOTS. A fault has no leftmost entry, and a node has one.
+-- ROOTS
 module _ (z : Shape) (σ : State) (r n : ℕ) where
-  no_lead : (x : Seen) → see_at z σ 0 r ≡ x → lead_in x ≡ 0 → size_is x n ≡ false
-  unfolding on_seen size_is
-  no_lead Fault q o = refl
-  no_lead (Under m s) q o =
-      let named = (live_cell z σ 1 m (seen_lead z σ (z.depths - 0) 0 r m s q)).1 in
-      let low = (names_says z m named).low in absurd (omega arith)
-
-  some_lead : (x : Seen) → (lead_in x ≡ 0 → ⊥) → eqb (size_in x) n ≡ size_is x n
-  unfolding on_seen size_is
-  some_lead Fault has = absurd (has refl)
-  some_lead (Under m q) has = refl
-
   pub root_none : r ≡ 0 → eqb n 0 ≡ root_right z σ r n
   unfolding root_right
   root_none e = rw (eq-eqb r 0 e)
 
-  module _ (some : r ≡ 0 → ⊥) (l : ℕ) (el : l ≡ lead_in (see_at z σ 0 r)) where
+  module _ (some : r ≡ 0 → ⊥) where
     by_size : root_right z σ r n ≡ size_is (see_at z σ 0 r) n
     unfolding root_right
     by_size = rw (ne_eqb r 0 some)
 
-    pub root_fault : l ≡ 0 → root_right z σ r n ≡ false
-    root_fault e = by_size ∙ no_lead (see_at z σ 0 r) refl (sym el ∙ e)
+    pub root_fault : see_at z σ 0 r ≡ Fault → root_right z σ r n ≡ false
+    unfolding size_is
+    root_fault e = by_size ∙ ap (λ (x : Option Seen). size_is x n) e
 
-    pub root_seen : (s : ℕ) → (l ≡ 0 → ⊥) → s ≡ size_in (see_at z σ 0 r) → eqb s n ≡ root_right z σ r n
-    root_seen s ne es = rw es (some_lead (see_at z σ 0 r) (λ q. ne (el ∙ q)) ∙ sym by_size)
+    pub root_seen : (l s : ℕ) → see_at z σ 0 r ≡ Under l s → eqb s n ≡ root_right z σ r n
+    unfolding size_is
+    root_seen l s e = sym (by_size ∙ ap (λ (x : Option Seen). size_is x n) e)
 
 -- SLOTS, by the words that tell whether it is held, the root and the size
 module _ (z : Shape) (σ : State) (s h r n : ℕ) (eh : h ≡ σ.held s) (er : r ≡ σ.root s) (en : n ≡ σ.size s) where

@@ -8,8 +8,7 @@ use borrow.Author.Tests.{eq-eqb, ne_eqb, lt-ltb}
 use lib.Dec.{eqb, ltb}
 use Rattle.cases.proofs.Cases.{eq?}
 use Rattle.layout.specs.Columns.{State}
-use Rattle.levels.specs.declared.Seen.TheVariants.{Fault, Under}
-use Rattle.levels.specs.Levels.{closed}
+use Rattle.levels.specs.Levels.{Fault, Under, closed}
 
 pub closes : (σ : State) (t r l bits size : ℕ) → σ.plain r 0 ≡ bits → (t ≡ 0) ⊎ (1 < size) → closed σ t r l bits size ≡ Under l size
 unfolding closed

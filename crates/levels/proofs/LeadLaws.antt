@@ -13,9 +13,9 @@ use Rattle.layout.specs.declared.Shape.{Shape}
 use Rattle.layout.specs.Columns.{State}
 use Rattle.audits.specs.Audits.{none_from, is_live}
 use Rattle.audits.proofs.LiveLaws.{live_cell}
+use Rattle.std.proofs.Common.{Option, Some, None}
 use Rattle.levels.specs.declared.Seen.{Seen}
-use Rattle.levels.specs.declared.Seen.TheVariants.{Fault, Under}
-use Rattle.levels.specs.Levels.{on_seen, is_seen, seen_entry, see_by, same_prefix, fits, closed, row_from, branch_by, see_from}
+use Rattle.levels.specs.Levels.{Fault, Under, on_seen, is_seen, seen_entry, see_by, same_prefix, fits, closed, row_from, branch_by, see_from}
 
 -- TWO ANSWERS. A fault is not a node, and a node is determined by its leftmost entry and its size.
 pub no_Fault : {A : Type 0} {l s : ℕ} → Fault ≡ Under l s → A
@@ -26,27 +26,27 @@ no_Fault {A} {l} {s} e =
 
 pub same_lead : {l s m q : ℕ} → Under l s ≡ Under m q → l ≡ m
 unfolding on_seen
-same_lead e = ap (λ (x : Seen). on_seen x 0 (λ l s. l)) e
+same_lead e = ap (λ (x : Option Seen). on_seen x 0 (λ l s. l)) e
 
 pub same_size : {l s m q : ℕ} → Under l s ≡ Under m q → s ≡ q
 unfolding on_seen
-same_size e = ap (λ (x : Seen). on_seen x 0 (λ l s. s)) e
+same_size e = ap (λ (x : Option Seen). on_seen x 0 (λ l s. s)) e
 
 -- a test that has to pass, one that has to fail, a node that has to be seen
-if_true : {l s : ℕ} (b : Bool) (x : Seen) → cond b x Fault ≡ Under l s → (b ≡ true) × (x ≡ Under l s)
+if_true : {l s : ℕ} (b : Bool) (x : Option Seen) → cond b x Fault ≡ Under l s → (b ≡ true) × (x ≡ Under l s)
 if_true b x e = split b (λ t. (t, rw t at e)) (λ f. no_Fault (rw f at e))
 
-if_false : {l s : ℕ} (b : Bool) (x : Seen) → cond b Fault x ≡ Under l s → (b ≡ false) × (x ≡ Under l s)
+if_false : {l s : ℕ} (b : Bool) (x : Option Seen) → cond b Fault x ≡ Under l s → (b ≡ false) × (x ≡ Under l s)
 if_false b x e = split b (λ t. no_Fault (rw t at e)) (λ f. (f, rw f at e))
 
-if_seen : {l s : ℕ} (x : Seen) (f : ℕ → ℕ → Seen) → on_seen x Fault f ≡ Under l s
+if_seen : {l s : ℕ} (x : Option Seen) (f : ℕ → ℕ → Option Seen) → on_seen x Fault f ≡ Under l s
     → (m : ℕ) × (q : ℕ) × (x ≡ Under m q) × (f m q ≡ Under l s)
 unfolding on_seen
-if_seen Fault f e = no_Fault e
-if_seen (Under m q) f e = (m, q, refl, e)
+if_seen None f e = no_Fault e
+if_seen (Some v) f e = (v.lead, v.size, refl, e)
 
 -- A NODE: an entry, or a branch at its depth
-pub see_says : (z : Shape) (σ : State) (below : ℕ → Seen) (t r l s : ℕ) → see_by z σ below t r ≡ Under l s
+pub see_says : (z : Shape) (σ : State) (below : ℕ → Option Seen) (t r l s : ℕ) → see_by z σ below t r ≡ Under l s
     → ((is_live z σ 1 r ≡ true) × (seen_entry z σ t r ≡ Under l s))
     ⊎ ((is_live z σ 0 r ≡ true) × (σ.mark r ≡ t) × (below r ≡ Under l s))
 unfolding see_by
@@ -99,7 +99,7 @@ abbrev pub segment_at : Shape → State → ℕ → ℕ → ℕ
 segment_at z σ t m = segment z.bits t (σ.plain m 0)
 
 -- the child at place k that is seen, and behind it a row that passes
-pub record Child (look : ℕ → Seen) (z : Shape) (σ : State) (t r l n k low bits size m s : ℕ) : Type 0 where
+pub record Child (look : ℕ → Option Seen) (z : Shape) (σ : State) (t r l n k low bits size m s : ℕ) : Type 0 where
   pub some : σ.kid r k ≡ 0 → ⊥
   pub lead : ℕ
   pub many : ℕ
@@ -110,7 +110,7 @@ pub record Child (look : ℕ → Seen) (z : Shape) (σ : State) (t r l n k low b
   pub next :
       row_from look z σ t r l n (suc k) (suc (segment_at z σ t lead)) (bits + 2 ^ segment_at z σ t lead) (size + many) ≡ Under m s
 
-module _ (look : ℕ → Seen) (z : Shape) (σ : State) (t r l : ℕ) where
+module _ (look : ℕ → Option Seen) (z : Shape) (σ : State) (t r l : ℕ) where
   -- a step: the row ends here, or there is a child
   pub row_says : (n k low bits size m s : ℕ) → row_from look z σ t r l (suc n) k low bits size ≡ Under m s
       → ((none_from (σ.kid r) k (suc n) ≡ true) × (closed σ t r l bits size ≡ Under m s))
@@ -163,7 +163,7 @@ module _ (look : ℕ → Seen) (z : Shape) (σ : State) (t r l : ℕ) where
       (row_says n k low bits size m s e)
 
 -- A BRANCH: its first child, whose leftmost entry is its own, and its row
-pub branch_says : (look : ℕ → Seen) (z : Shape) (σ : State) (t r l s : ℕ) → branch_by look z σ t r ≡ Under l s
+pub branch_says : (look : ℕ → Option Seen) (z : Shape) (σ : State) (t r l s : ℕ) → branch_by look z σ t r ≡ Under l s
     → (σ.kid r 0 ≡ 0 → ⊥) × ((q : ℕ) × (look (σ.kid r 0) ≡ Under l q))
     × (row_from look z σ t r l z.degree 0 0 0 0 ≡ Under l s)
 unfolding branch_by

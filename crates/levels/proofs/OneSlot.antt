@@ -10,8 +10,7 @@ use Rattle.cases.proofs.Cases.{both, eq?}
 use Rattle.layout.specs.declared.Shape.{Shape}
 use Rattle.layout.specs.Columns.{State}
 use Rattle.arena.specs.Sound.{FreeSlot}
-use Rattle.levels.specs.declared.Seen.TheVariants.{Under}
-use Rattle.levels.specs.Levels.{see_at, root_right, slot_right}
+use Rattle.levels.specs.Levels.{Under, see_at, root_right, slot_right}
 use Rattle.levels.proofs.RootSize.{size_some}
 
 module _ (z : Shape) (σ : State) where

@@ -16,9 +16,9 @@ use Rattle.layout.specs.Columns.{State}
 use Rattle.arena.specs.Shows.{bitmap, behind, ShowsChain, Shows, ShowsRow}
 use Rattle.audits.specs.Audits.{is_live}
 use Rattle.audits.proofs.Shown.{ChainAt}
+use Rattle.std.proofs.Common.{Option}
 use Rattle.levels.specs.declared.Seen.{Seen}
-use Rattle.levels.specs.declared.Seen.TheVariants.{Under}
-use Rattle.levels.specs.Levels.{closed}
+use Rattle.levels.specs.Levels.{Under, closed}
 use Rattle.levels.proofs.Paths.{path_of, asked, SeenAs}
 use Rattle.levels.proofs.Children.{chain_length, kids_length, From, From-Above}
 use Rattle.levels.proofs.PrefixLaws.{prefix_path, path_Under}
@@ -101,7 +101,7 @@ module _ (z : Shape) (σ : State) where
         room = ⊎_elim (λ y. inl y) (λ y. inr (omega (arith, w.3))) w.1;
       }
 
-  child_Canon : (d t l : ℕ) (look : ℕ → Seen) {r n k low bits size m s : ℕ} (c : Child look z σ t r l n k low bits size m s)
+  child_Canon : (d t l : ℕ) (look : ℕ → Option Seen) {r n k low bits size m s : ℕ} (c : Child look z σ t r l n k low bits size m s)
       (v : SeenAs z σ d (suc t) (σ.kid r k) c.lead c.many)
       → Canon (segment z.bits) Word64 Busy d (segment_at z σ t c.lead ∷ path t l) v.node
   unfolding path_of asked
@@ -109,7 +109,7 @@ module _ (z : Shape) (σ : State) where
       subst (λ (p : List ℕ). Canon (segment z.bits) Word64 Busy d (segment_at z σ t c.lead ∷ p) v.node)
       (prefix_path z t (σ.plain l 0) (σ.plain c.lead 0) c.prefix) v.canon
 
-  pub row_goes : (d t r l n k low bits size m s : ℕ) (look : ℕ → Seen) (c : Child look z σ t r l n k low bits size m s)
+  pub row_goes : (d t r l n k low bits size m s : ℕ) (look : ℕ → Option Seen) (c : Child look z σ t r l n k low bits size m s)
       → SeenAs z σ d (suc t) (σ.kid r k) c.lead c.many
       → RowAs d t r l (suc k) (suc (segment_at z σ t c.lead)) (bits + 2 ^ segment_at z σ t c.lead) (size + c.many) s
       → RowAs d t r l k low bits size s

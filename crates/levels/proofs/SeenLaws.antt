@@ -22,9 +22,9 @@ use Rattle.audits.specs.Audits.{none_from, is_live}
 use Rattle.audits.proofs.AllLaws.{all_says}
 use Rattle.audits.proofs.Shown.{ChainAt}
 use Rattle.audits.proofs.LiveLaws.{live_cell}
+use Rattle.std.proofs.Common.{Option}
 use Rattle.levels.specs.declared.Seen.{Seen}
-use Rattle.levels.specs.declared.Seen.TheVariants.{Under}
-use Rattle.levels.specs.Levels.{seen_entry, row_from, see_from}
+use Rattle.levels.specs.Levels.{Under, seen_entry, row_from, see_from}
 use Rattle.levels.proofs.Paths.{asked, SeenAs}
 use Rattle.levels.proofs.Children.{kids_length, From-Asc}
 use Rattle.levels.proofs.PartLaws.{entry_shows, RowAs, row_ends, row_goes}
@@ -41,7 +41,7 @@ big (branch c ks) l = tt
 -- BRANCHES, where every entry in use has its chain, and no branch has children beyond the degree
 module _ (z : Shape) (σ : State) (chains : (r : ℕ) → is_live z σ 1 r ≡ true → ChainAt z σ r)
     (clip : (q j : ℕ) → z.degree ≤ j → kind_of q ≡ 0 → σ.kid q j ≡ 0) where
-  module _ (d t r l : ℕ) (look : ℕ → Seen) (even : kind_of r ≡ 0)
+  module _ (d t r l : ℕ) (look : ℕ → Option Seen) (even : kind_of r ≡ 0)
       (below : (q m s : ℕ) → look q ≡ Under m s → SeenAs z σ d (suc t) q m s) where
     over : (n k : ℕ) → n + k ≡ z.degree → none_from (σ.kid r) k n ≡ true → (j : ℕ) → σ.kid r (k + j) ≡ 0
     over n k e off j =
@@ -112,7 +112,7 @@ module _ (z : Shape) (σ : State) (chains : (r : ℕ) → is_live z σ 1 r ≡ t
       (see_says z σ _ t r l s w)
 
   -- a child of a branch that is seen is seen
-  row_kid : (look : ℕ → Seen) (t r l n k low bits size m s j : ℕ) → row_from look z σ t r l n k low bits size ≡ Under m s
+  row_kid : (look : ℕ → Option Seen) (t r l n k low bits size m s j : ℕ) → row_from look z σ t r l n k low bits size ≡ Under m s
       → k ≤ j → j < k + n → (σ.kid r j ≡ 0 → ⊥) → (p : ℕ) × (q : ℕ) × (look (σ.kid r j) ≡ Under p q)
   row_kid look t r l zero k low bits size m s j e u v nz = absurd (omega arith)
   row_kid look t r l (suc n) k low bits size m s j e u v nz =

@@ -27,9 +27,9 @@ use Rattle.arena.proofs.Few.{columns_live}
 use Rattle.arena.proofs.Frames.{shown_some}
 use Rattle.audits.specs.Audits.{is_live}
 use Rattle.audits.proofs.AllLaws.{all_is}
+use Rattle.std.proofs.Common.{Option}
 use Rattle.levels.specs.declared.Seen.{Seen}
-use Rattle.levels.specs.declared.Seen.TheVariants.{Fault, Under}
-use Rattle.levels.specs.Levels.{on_seen, seen_entry, see_by, fits, row_from, branch_by, see_from}
+use Rattle.levels.specs.Levels.{Fault, Under, on_seen, seen_entry, see_by, fits, row_from, branch_by, see_from}
 use Rattle.levels.proofs.Paths.{asked}
 use Rattle.levels.proofs.Children.{chain_length, kids_length, From, above_from, Asc-From}
 use Rattle.levels.proofs.SamePrefix.{same_prefix_lem}
@@ -165,7 +165,7 @@ module _ (z : Shape) (σ : State) (named : (r : ℕ) → 0 < σ.count r → name
       deepest (suc n) [] d c more = absurd (more refl)
       deepest (suc n) (y ∷ ys) d c more = absurd c
 
-  leaf_seen : (n t r : ℕ) (path : List ℕ) (x : Item ℕ) (xs : List (Item ℕ)) (Q : Kids ℕ → Type 0) (below : ℕ → Seen)
+  leaf_seen : (n t r : ℕ) (path : List ℕ) (x : Item ℕ) (xs : List (Item ℕ)) (Q : Kids ℕ → Type 0) (below : ℕ → Option Seen)
       → n + t ≡ z.depths → ShowsChain σ (x ∷ xs) r → Canon seg Word64 Q n path (leaf (x ∷ xs))
       → see_by z σ below t r ≡ Under (lead_of (leaf (x ∷ xs))) (length (listing_node (leaf (x ∷ xs))))
   unfolding see_by lead_of listing_node ShowsChain
@@ -173,7 +173,7 @@ module _ (z : Shape) (σ : State) (named : (r : ℕ) → 0 < σ.count r → name
       rw (is_live_lem 1 r (omega (arith, h.0)) h.1, chain_length (x ∷ xs), ← h.0) (entry_seen n t r path x xs d h Q c)
 
   -- A ROW of children at depth t, the length of their path, where each child is seen as it is
-  module _ (n : ℕ) (path : List ℕ) (look : ℕ → Seen)
+  module _ (n : ℕ) (path : List ℕ) (look : ℕ → Option Seen)
       (looks : (s q : ℕ) (m : Node ℕ) → Shows σ m (suc (length path)) q → Canon seg Word64 Busy n (s ∷ path) m
       → length (listing_node m) ≤ z.entries → look q ≡ Under (lead_of m) (length (listing_node m)))
       (r l : ℕ) (is_branch : kind_of r ≡ 0) (has : Has seg path (σ.plain l 0)) where

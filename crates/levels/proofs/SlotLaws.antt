@@ -16,16 +16,16 @@ use Rattle.arena.proofs.RefLaws.{ref_cell}
 use Rattle.audits.specs.Audits.{branches_right}
 use Rattle.audits.proofs.AllLaws.{false-true, all_below}
 use Rattle.audits.proofs.CellLaws.{branch_deep}
+use Rattle.std.proofs.Common.{Option, Some, None}
 use Rattle.levels.specs.declared.Seen.{Seen}
-use Rattle.levels.specs.declared.Seen.TheVariants.{Fault, Under}
-use Rattle.levels.specs.Levels.{on_seen, is_seen, see_at, is_at, branch_seen, level_seen, levels_seen, slot_right, slots_right}
+use Rattle.levels.specs.Levels.{Under, on_seen, is_seen, see_at, is_at, branch_seen, level_seen, levels_seen, slot_right, slots_right}
 use Rattle.levels.proofs.OneSlot.{slot_says}
 pub use Rattle.levels.proofs.OneSlot.{RootIs, RootSeen}
 
-seen_some : (s : Seen) → is_seen s ≡ true → (l : ℕ) × (n : ℕ) × (s ≡ Under l n)
+seen_some : (s : Option Seen) → is_seen s ≡ true → (l : ℕ) × (n : ℕ) × (s ≡ Under l n)
 unfolding on_seen
-seen_some Fault e = absurd (false-true e)
-seen_some (Under l n) e = (l, n, refl)
+seen_some None e = absurd (false-true e)
+seen_some (Some v) e = (v.lead, v.size, refl)
 
 module _ (z : Shape) (σ : State) where
   -- LEVELS

@@ -25,9 +25,9 @@ use Rattle.lookup.proofs.FindLaws.{kind_says, kind_is, kind_other, entry_word}
 use Rattle.audits.specs.Audits.{all_from, none_from, is_live}
 use Rattle.audits.proofs.AllLaws.{false-true, all_on, all_stops, all_over}
 use Rattle.audits.proofs.LiveLaws.{live_says, live_is}
+use Rattle.std.proofs.Common.{Option}
 use Rattle.levels.specs.declared.Seen.{Seen}
-use Rattle.levels.specs.declared.Seen.TheVariants.{Fault, Under}
-use Rattle.levels.specs.Levels.{on_seen, lead_in, size_in, fits, closed, ended, row_from, branch_by, see_by, see_from, see_at, is_at, branch_seen, level_seen, levels_seen, kept, kept_as, Known, KeptAt, OnlyAt, OnlyBranches}
+use Rattle.levels.specs.Levels.{Fault, Under, on_seen, fits, closed, ended, row_from, branch_by, see_by, see_from, see_at, is_at, branch_seen, level_seen, levels_seen, kept, kept_as, Known, KeptAt, OnlyAt, OnlyBranches}
 use Rattle.lookup.proofs.Meaning.{segment_low}
 use Rattle.levels.proofs.LeadLaws.{seen_lead, seen_few, fits_says}
 use Rattle.levels.proofs.CaseLaws.{shift_one}
@@ -36,15 +36,9 @@ not_live : (z : Shape) (σ : State) (k r : ℕ) → (kind_of r ≡ k → ⊥) �
 unfolding is_live
 not_live z σ k r ne = rw (kind_other z k r ne)
 
--- WHAT IS SEEN has a leftmost entry, whose reference is not 0
-pub seen_parts : (s : Seen) → (lead_in s ≡ 0 → ⊥) → s ≡ Under (lead_in s) (size_in s)
-unfolding on_seen
-seen_parts Fault ne = absurd (ne refl)
-seen_parts (Under l n) ne = refl
-
 -- A ROW, by its next child
-module _ (look : ℕ → Seen) (z : Shape) (σ : State) (t r l : ℕ) (k low bits size : ℕ) where
-  abbrev Row : ℕ → Seen
+module _ (look : ℕ → Option Seen) (z : Shape) (σ : State) (t r l : ℕ) (k low bits size : ℕ) where
+  abbrev Row : ℕ → Option Seen
   Row n = row_from look z σ t r l n k low bits size
 
   one_on : (g : ℕ) → k < g → Row (g - k) ≡ Row (suc (g - suc k))
@@ -78,7 +72,7 @@ module _ (look : ℕ → Seen) (z : Shape) (σ : State) (t r l : ℕ) (k low bit
       row_next f w q = one_on g m ∙ rw (ne_eqb (σ.kid r k) 0 some, e, f, q)
 
 -- the row from its first child on
-pub row_first : (look : ℕ → Seen) (z : Shape) (σ : State) (t r l g : ℕ)
+pub row_first : (look : ℕ → Option Seen) (z : Shape) (σ : State) (t r l g : ℕ)
     → row_from look z σ t r l g 0 0 0 0 ≡ row_from look z σ t r l (g - 0) 0 0 0 0
 row_first look z σ t r l g = let e : g ≡ g - 0 = omega arith in ap (λ (n : ℕ). row_from look z σ t r l n 0 0 0 0) e
 
@@ -86,26 +80,19 @@ row_first look z σ t r l g = let e : g ≡ g - 0 = omega arith in ap (λ (n : �
 pub seen_named : (z : Shape) (σ : State) (n t c l s : ℕ) → see_from z σ n t c ≡ Under l s → names_kind z 1 l ≡ true
 seen_named z σ n t c l s e = (live_says z σ 1 l (seen_lead z σ n t c l s e)).0
 
--- where it is 0, there was a fault
-pub seen_Fault : (z : Shape) (σ : State) (n t c : ℕ) (s : Seen) → s ≡ see_from z σ n t c → lead_in s ≡ 0 → s ≡ Fault
-unfolding on_seen
-seen_Fault z σ n t c Fault e q = refl
-seen_Fault z σ n t c (Under l m) e q =
-    absurd (omega (arith, q, (names_says z l (kind_says z 1 l (seen_named z σ n t c l m (sym e))).0).low))
-
 -- so of the child k at hand, which is read at the depth u
-module _ (z : Shape) (a : List ℕ) (t u c : ℕ) (s : Seen) (down : u ≡ t) (e : s ≡ see_at z (columns z a) u c) where
+module _ (z : Shape) (a : List ℕ) (t u c : ℕ) (s : Option Seen) (down : u ≡ t) (e : s ≡ see_at z (columns z a) u c) where
   as_seen : (k : ℕ) → c ≡ k → see_at z (columns z a) t k ≡ s
   as_seen k q = ap₂ (see_at z (columns z a)) (sym down) (sym q) ∙ sym e
 
-  pub child_Fault : (k : ℕ) → c ≡ k → lead_in s ≡ 0 → see_at z (columns z a) t k ≡ Fault
-  child_Fault k q n = as_seen k q ∙ seen_Fault z (columns z a) _ u c s e n
+  pub child_Fault : (k : ℕ) → c ≡ k → s ≡ Fault → see_at z (columns z a) t k ≡ Fault
+  child_Fault k q n = as_seen k q ∙ n
 
-  pub child_seen : (k l m : ℕ) → c ≡ k → l ≡ lead_in s → (l ≡ 0 → ⊥) → m ≡ size_in s → see_at z (columns z a) t k ≡ Under l m
-  child_seen k l m q f ne g = as_seen k q ∙ seen_parts s (λ y. ne (f ∙ y)) ∙ (λ i. Under (sym f i) (sym g i))
+  pub child_seen : (k l m : ℕ) → c ≡ k → s ≡ Under l m → see_at z (columns z a) t k ≡ Under l m
+  child_seen k l m q n = as_seen k q ∙ n
 
-  pub lead_named : (l : ℕ) → l ≡ lead_in s → (l ≡ 0 → ⊥) → names_kind z 1 l ≡ true
-  lead_named l f ne = seen_named z (columns z a) _ t c l (size_in s) (child_seen c l (size_in s) refl f ne refl)
+  pub lead_named : (l m : ℕ) → s ≡ Under l m → names_kind z 1 l ≡ true
+  lead_named l m n = seen_named z (columns z a) _ t c l m (child_seen c l m refl n)
 
 -- no more depths than a hash has bits
 pub few_depths : (z : Shape) → Allowed z → z.depths ≤ 64
@@ -174,7 +161,7 @@ pub known_at : (z : Shape) (a : List ℕ) (t u : ℕ) (w : List ℕ) → u ≡ t
 known_at z a t u w e k = subst (λ (x : ℕ). Known z a x w) (sym e) k
 
 -- the row from its next child on, in the machine's numbers
-pub row_shift : (look : ℕ → Seen) (z : Shape) (σ : State) (t r l k low bits size k' low' bits' : ℕ) → k' ≡ suc k → low' ≡ suc low
+pub row_shift : (look : ℕ → Option Seen) (z : Shape) (σ : State) (t r l k low bits size k' low' bits' : ℕ) → k' ≡ suc k → low' ≡ suc low
     → low < 64 → bits' ≡ bits + 1 * 2 ^ low % 2 ^ 64
     → row_from look z σ t r l (z.degree - suc k) (suc k) (suc low) (bits + 2 ^ low) size
     ≡ row_from look z σ t r l (z.degree - k') k' low' bits' size
@@ -182,7 +169,7 @@ row_shift look z σ t r l k low bits size k' low' bits' a b small c = λ i.
     row_from look z σ t r l (z.degree - sym a i) (sym a i) (sym b i) (sym (c ∙ ap (λ (x : ℕ). bits + x) (shift_one low small)) i) size
 
 -- A BRANCH, by its first child
-module _ (look : ℕ → Seen) (z : Shape) (σ : State) (t r : ℕ) where
+module _ (look : ℕ → Option Seen) (z : Shape) (σ : State) (t r : ℕ) where
   pub branch_none : σ.kid r 0 ≡ 0 → branch_by look z σ t r ≡ Fault
   unfolding branch_by
   branch_none e = rw (eq-eqb (σ.kid r 0) 0 e)
@@ -263,20 +250,20 @@ module _ (z : Shape) (a : List ℕ) (t i r : ℕ) (w : List ℕ) (q : r ≡ refe
     (λ y k. absurd (false-true (sym (at_ref false e) ∙ k)), same_words),
   )
 
-  module _ (l : i < z.branches) (d : t < z.depths) (e : is_at (columns z a) t r ≡ true) (s : Seen)
+  module _ (l : i < z.branches) (d : t < z.depths) (e : is_at (columns z a) t r ≡ true) (s : Option Seen)
       (f : s ≡ branch_by (see_at z (columns z a) (suc t)) z (columns z a) t r) where
     it_is : s ≡ see_at z (columns z a) t r
     it_is = f ∙ sym (see_here z (columns z a) t r (branch_at z i r l q) e d)
 
-    pub Sees-fault : lead_in s ≡ 0 → Sees z a t i w false w
+    pub Sees-fault : s ≡ Fault → Sees z a t i w false w
     Sees-fault n =
         let g : see_at z (columns z a) t (reference 0 i) ≡ Fault
-        = ap (see_at z (columns z a) t) (sym q) ∙ sym it_is ∙ seen_Fault z (columns z a) _ t r s it_is n in
+        = ap (see_at z (columns z a) t) (sym q) ∙ sym it_is ∙ n in
         (sym (at_Fault z (columns z a) t (reference 0 i) (at_ref true e) g), (λ y. absurd (false-true y), same_words))
 
-    module _ (m n : ℕ) (p : m ≡ lead_in s) (some : m ≡ 0 → ⊥) (g : n ≡ size_in s) where
+    module _ (m n : ℕ) (p : s ≡ Under m n) where
       it_shows : see_at z (columns z a) t r ≡ Under m n
-      it_shows = sym it_is ∙ seen_parts s (λ y. some (p ∙ y)) ∙ (λ j. Under (sym p j) (sym g j))
+      it_shows = sym it_is ∙ p
 
       pub keep_fits : Allowed z → (m < 2 ^ 32) × (n < 2 ^ 32)
       unfolding cells_of

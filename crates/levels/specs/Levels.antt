@@ -1,34 +1,34 @@
 -- What is asked of branches and slots: document 01, SOUND, as tests on the columns of an arena, by the leftmost entry and the
 -- number of entries below each node. What a reference shows if they hold, and that they hold where it shows a trie that the
 -- rules can build, is in the proofs of this crate.
-use Rattle.std.specs.Prelude.{ℕ, zero, suc, ◌+◌, ◌-◌, ◌*◌, ◌/◌, ◌%◌, ◌^◌, ◌≤◌, ◌≡◌, Bool, true, false, cond, List, eqb, ltb, leb, length, get_or}
+use Rattle.std.specs.Prelude.{ℕ, zero, suc, ◌+◌, ◌-◌, ◌*◌, ◌/◌, ◌%◌, ◌^◌, ◌≤◌, ◌≡◌, Bool, true, false, cond, List, eqb, ltb, leb, length, get_or, Option, Some, None}
 use Rattle.segments.specs.Segments.{segment}
 use Rattle.layout.specs.declared.Shape.{Shape}
 use Rattle.layout.specs.Layout.{reference, cell_of}
 use Rattle.layout.specs.Columns.{State, columns}
 use Rattle.audits.specs.Audits.{all_from, none_from, is_live}
 use Rattle.levels.specs.declared.Seen.{Seen}
-use Rattle.levels.specs.declared.Seen.TheVariants.{Fault, Under}
 
-unfoldable pub on_seen : {A : Type 0} → Seen → A → (ℕ → ℕ → A) → A
-on_seen Fault x f = x
-on_seen (Under l s) x f = f l s
+-- what is seen below a reference: nothing where there is a fault, and else the leftmost entry and how many entries there are
+abbrev pub Fault : Option Seen
+Fault = None
 
-abbrev pub is_seen : Seen → Bool
+abbrev pub Under : ℕ → ℕ → Option Seen
+Under l s = Some record { lead = l; size = s }
+
+unfoldable pub on_seen : {A : Type 0} → Option Seen → A → (ℕ → ℕ → A) → A
+on_seen None x f = x
+on_seen (Some v) x f = f v.lead v.size
+
+abbrev pub is_seen : Option Seen → Bool
 is_seen s = on_seen s false (λ l n. true)
 
-abbrev pub lead_in : Seen → ℕ
-lead_in s = on_seen s 0 (λ l n. l)
-
-abbrev pub size_in : Seen → ℕ
-size_in s = on_seen s 0 (λ l n. n)
-
 -- LEAVES. A chain stands at the depth where a hash is exhausted; above it every entry is a single.
-unfoldable pub seen_entry : Shape → State → ℕ → ℕ → Seen
+unfoldable pub seen_entry : Shape → State → ℕ → ℕ → Option Seen
 seen_entry z σ t r = cond (eqb (σ.mark r) 1) (Under r 1) (cond (eqb t z.depths) (Under r (σ.mark r)) Fault)
 
 -- the reference r at depth t: an entry, or a branch whose depth word is its place
-unfoldable pub see_by : Shape → State → (ℕ → Seen) → ℕ → ℕ → Seen
+unfoldable pub see_by : Shape → State → (ℕ → Option Seen) → ℕ → ℕ → Option Seen
 see_by z σ below t r =
     cond (is_live z σ 1 r) (seen_entry z σ t r) (cond (is_live z σ 0 r) (cond (eqb (σ.mark r) t) (below r) Fault) Fault)
 
@@ -42,16 +42,16 @@ fits z t g low size h s =
     cond (leb low (segment z.bits t h)) (cond (same_prefix z t g h) (leb s (z.entries - size)) false) false
 
 -- all children read: the bitmap has their segments and no others, and below the root a single is not the only child
-unfoldable pub closed : State → ℕ → ℕ → ℕ → ℕ → ℕ → Seen
+unfoldable pub closed : State → ℕ → ℕ → ℕ → ℕ → ℕ → Option Seen
 closed σ t r l bits size = cond (eqb (σ.plain r 0) bits) (cond (eqb t 0) (Under l size) (cond (ltb 1 size) (Under l size) Fault)) Fault
 
 -- the children end at place k. Packed: behind a 0 all is 0.
-unfoldable pub ended : Shape → State → ℕ → ℕ → ℕ → ℕ → ℕ → ℕ → Seen
+unfoldable pub ended : Shape → State → ℕ → ℕ → ℕ → ℕ → ℕ → ℕ → Option Seen
 ended z σ t r l k bits size = cond (none_from (σ.kid r) k (z.degree - k)) (closed σ t r l bits size) Fault
 
-module _ (look : ℕ → Seen) (z : Shape) (σ : State) (t r l : ℕ) where
+module _ (look : ℕ → Option Seen) (z : Shape) (σ : State) (t r l : ℕ) where
   -- n children of r from place k on. The segments before are below low, in bits, with size entries. Packed: behind a 0 all is 0.
-  unfoldable pub row_from : ℕ → ℕ → ℕ → ℕ → ℕ → Seen
+  unfoldable pub row_from : ℕ → ℕ → ℕ → ℕ → ℕ → Option Seen
   row_from zero k low bits size = closed σ t r l bits size
   row_from (suc n) k low bits size =
       cond (eqb (σ.kid r k) 0)
@@ -63,17 +63,17 @@ module _ (look : ℕ → Seen) (z : Shape) (σ : State) (t r l : ℕ) where
       cond (fits z t (σ.plain l 0) low size h s) (row_from n (suc k) (suc g) (bits + 2 ^ g) (size + s)) Fault))
 
 -- the branch r at depth t
-unfoldable pub branch_by : (ℕ → Seen) → Shape → State → ℕ → ℕ → Seen
+unfoldable pub branch_by : (ℕ → Option Seen) → Shape → State → ℕ → ℕ → Option Seen
 branch_by look z σ t r =
     cond (eqb (σ.kid r 0) 0) Fault
     (on_seen (look (σ.kid r 0)) Fault (λ l s. row_from look z σ t r l z.degree 0 0 0 0))
 
 -- THE NODE r at depth t, with n depths left: the reference of its leftmost entry, and how many entries it has
-unfoldable pub see_from : Shape → State → ℕ → ℕ → ℕ → Seen
+unfoldable pub see_from : Shape → State → ℕ → ℕ → ℕ → Option Seen
 see_from z σ zero t r = see_by z σ (λ q. Fault) t r
 see_from z σ (suc n) t r = see_by z σ (branch_by (see_from z σ n (suc t)) z σ t) t r
 
-abbrev pub see_at : Shape → State → ℕ → ℕ → Seen
+abbrev pub see_at : Shape → State → ℕ → ℕ → Option Seen
 see_at z σ t r = see_from z σ (z.depths - t) t r
 
 -- LEVELS. A branch in use whose depth is t, and all of them; then all depths below d, the deepest first.
@@ -91,9 +91,9 @@ levels_seen z σ zero = true
 levels_seen z σ (suc d) = cond (level_seen z σ d) (levels_seen z σ d) false
 
 -- SLOTS. "Slot: held (0 or 1), root, size; all 0 if not held"; a held root shows a trie with its size.
-unfoldable pub size_is : Seen → ℕ → Bool
-size_is Fault n = false
-size_is (Under l s) n = eqb s n
+unfoldable pub size_is : Option Seen → ℕ → Bool
+size_is None n = false
+size_is (Some v) n = eqb v.size n
 
 unfoldable pub root_right : Shape → State → ℕ → ℕ → Bool
 root_right z σ r n = cond (eqb r 0) (eqb n 0) (size_is (see_at z σ 0 r) n)
@@ -111,7 +111,7 @@ slots_right z σ = all_from (slot_right z σ) 0 z.slots
 abbrev pub kept_as : ℕ → ℕ → ℕ
 kept_as l s = l * 2 ^ 32 + s
 
-abbrev pub kept : List ℕ → ℕ → Seen
+abbrev pub kept : List ℕ → ℕ → Option Seen
 kept w r = Under (get_or w (cell_of r) 0 / 2 ^ 32) (get_or w (cell_of r) 0 % 2 ^ 32)
 
 pub record Known (z : Shape) (a : List ℕ) (t : ℕ) (w : List ℕ) : Type 0 where

@@ -11,7 +11,7 @@ ghost use Rattle.std.specs.Prelude.{◌≡◌, true, suc, ◌*◌, ◌^◌, ◌�
 ghost use Rattle.layout.specs.Layout.{reference, Lent};
 ghost use Rattle.layout.specs.Columns.{columns};
 ghost use Rattle.lookup.specs.Lookup.{names_kind};
-ghost use Rattle.levels.specs.Levels.{lead_in, size_in, seen_entry, fits, closed, ended, row_from, branch_by, see_at, is_at, branch_seen, level_seen, levels_seen, root_right, slot_right, slots_right, kept_as, Known, KeptAt, OnlyAt, OnlyBranches};
+ghost use Rattle.levels.specs.Levels.{seen_entry, fits, closed, ended, row_from, branch_by, see_at, is_at, branch_seen, level_seen, levels_seen, root_right, slot_right, slots_right, kept_as, Known, KeptAt, OnlyAt, OnlyBranches};
 
 use audits::branches;
 use layout::{Shape, words};
@@ -19,56 +19,57 @@ use lookup::links;
 
 // What stands below a reference: the reference of the leftmost entry, and how many entries there are.
 #[derive(Clone, Copy)]
-pub enum Seen {
-    Fault,
-    Under { lead: u64, size: u64 },
+pub struct Seen {
+    pub lead: u64,
+    pub size: u64,
 }
 
-fn see_entry(a: &[u64], z: Shape, depth: u64, r: u64) -> Seen
+fn see_entry(a: &[u64], z: Shape, depth: u64, r: u64) -> Option<Seen>
     requires lent { Lent z a.now }
     requires is_entry { names_kind z 1 r ≡ true }
     ensures { result ≡ seen_entry z (columns z a.now) depth r }
 {
     let size = words::word(a, z, r, words::MARK);
     if size == 1 {
-        return Seen::Under { lead: r, size: 1 };
+        return Some(Seen { lead: r, size: 1 });
     }
     if depth == z.depths {
-        return Seen::Under { lead: r, size };
+        return Some(Seen { lead: r, size });
     }
-    Seen::Fault
+    None
 }
 
-// A reference at a depth: an entry by its words, a branch by what is kept of it.
-fn see(a: &[u64], work: &[u64], z: Shape, depth: u64, r: u64) -> Seen
+// A reference at a depth: an entry by its words, a branch by what is kept of it. None where it is at fault.
+fn see(a: &[u64], work: &[u64], z: Shape, depth: u64, r: u64) -> Option<Seen>
     requires lent { Lent z a.now }
     requires known { Known z a.now depth work.now }
     requires work_fits { z.branches ≤ length work.now }
     ensures { result ≡ see_at z (columns z a.now) depth r }
 {
     if !words::is_cell(z, r) {
-        return Seen::Fault;
+        return None;
     }
     if words::word(a, z, r, words::COUNT) == 0 {
-        return Seen::Fault;
+        return None;
     }
     if r % 2 == 1 {
         return see_entry(a, z, depth, r);
     }
     if words::word(a, z, r, words::MARK) != depth {
-        return Seen::Fault;
+        return None;
     }
     let kept = work[(r / 2 - 1) as usize];
-    Seen::Under {
+    Some(Seen {
         lead: kept / 4294967296,
         size: kept % 4294967296,
-    }
+    })
 }
 
 // Whether a child may stand behind those before it: see specs/Levels.antt.
 fn is_fit(z: Shape, depth: u64, first: u64, low: u64, size: u64, hash: u64, below: u64) -> bool
     requires prefix_fits { depth * z.bits < 64 }
-    requires size_fits { (z.bits ≤ 6) × (size ≤ z.entries) }
+    requires few_bits { z.bits ≤ 6 }
+    requires size_fits { size ≤ z.entries }
     ensures { result ≡ fits z depth first low size hash below }
 {
     if segments::segment_at(hash, depth, z.bits) < low {
@@ -82,44 +83,34 @@ fn is_fit(z: Shape, depth: u64, first: u64, low: u64, size: u64, hash: u64, belo
 }
 
 // All children of a branch are read.
-fn close(a: &[u64], z: Shape, depth: u64, r: u64, lead: u64, bits: u64, size: u64) -> Seen
+fn close(a: &[u64], z: Shape, depth: u64, r: u64, lead: u64, bits: u64, size: u64) -> Option<Seen>
     requires lent { Lent z a.now }
     requires is_branch { names_kind z 0 r ≡ true }
     ensures { result ≡ closed (columns z a.now) depth r lead bits size }
 {
     if words::word(a, z, r, words::BITMAP) != bits {
-        return Seen::Fault;
+        return None;
     }
     if depth == 0 {
-        return Seen::Under { lead, size };
+        return Some(Seen { lead, size });
     }
     if size > 1 {
-        return Seen::Under { lead, size };
+        return Some(Seen { lead, size });
     }
-    Seen::Fault
-}
-
-// The leftmost entry, and how many entries there are; 0 where there was a fault.
-fn lead_of(s: Seen) -> u64
-    ensures { result ≡ lead_in s }
-{
-    match s {
-        Seen::Under { lead, size: _ } => lead,
-        Seen::Fault => 0,
-    }
-}
-
-fn size_of(s: Seen) -> u64
-    ensures { result ≡ size_in s }
-{
-    match s {
-        Seen::Under { lead: _, size } => size,
-        Seen::Fault => 0,
-    }
+    None
 }
 
 // The children end at a place: behind it there are none.
-fn end_row(a: &[u64], z: Shape, depth: u64, r: u64, lead: u64, k: u64, bits: u64, size: u64) -> Seen
+fn end_row(
+    a: &[u64],
+    z: Shape,
+    depth: u64,
+    r: u64,
+    lead: u64,
+    k: u64,
+    bits: u64,
+    size: u64,
+) -> Option<Seen>
     requires lent { Lent z a.now }
     requires is_branch { names_kind z 0 r ≡ true }
     requires in_row { k ≤ z.degree }
@@ -128,12 +119,12 @@ fn end_row(a: &[u64], z: Shape, depth: u64, r: u64, lead: u64, k: u64, bits: u64
     if branches::has_none_from(a, z, r, k) {
         close(a, z, depth, r, lead, bits, size)
     } else {
-        Seen::Fault
+        None
     }
 }
 
 // The children of a branch, from the first on: `lead` is the leftmost entry below the first.
-fn read_row(a: &[u64], work: &[u64], z: Shape, depth: u64, r: u64, lead: u64) -> Seen
+fn read_row(a: &[u64], work: &[u64], z: Shape, depth: u64, r: u64, lead: u64) -> Option<Seen>
     requires lent { Lent z a.now }
     requires known { Known z a.now (suc depth) work.now }
     requires work_fits { z.branches ≤ length work.now }
@@ -146,33 +137,26 @@ fn read_row(a: &[u64], work: &[u64], z: Shape, depth: u64, r: u64, lead: u64) ->
     let mut low = 0;
     let mut bits = 0;
     let mut size = 0;
-    let mut k = 0;
-    while k < z.degree {
+    for k in 0..z.degree {
         let child = links::kid(a, z, r, k);
         if child == 0 {
             return end_row(a, z, depth, r, lead, k, bits, size);
         }
-        let seen = see(a, work, z, depth + 1, child);
-        let entry = lead_of(seen);
-        if entry == 0 {
-            return Seen::Fault;
-        }
-        let below = size_of(seen);
-        let hash = words::word(a, z, entry, words::HASH);
-        if !is_fit(z, depth, first, low, size, hash, below) {
-            return Seen::Fault;
+        let seen = see(a, work, z, depth + 1, child)?;
+        let hash = words::word(a, z, seen.lead, words::HASH);
+        if !is_fit(z, depth, first, low, size, hash, seen.size) {
+            return None;
         }
         let segment = segments::segment_at(hash, depth, z.bits);
         low = segment + 1;
         bits += 1u64 << segment;
-        size += below;
-        k += 1;
+        size += seen.size;
     }
     close(a, z, depth, r, lead, bits, size)
 }
 
 // A branch at its depth.
-fn read_branch(a: &[u64], work: &[u64], z: Shape, depth: u64, r: u64) -> Seen
+fn read_branch(a: &[u64], work: &[u64], z: Shape, depth: u64, r: u64) -> Option<Seen>
     requires lent { Lent z a.now }
     requires known { Known z a.now (suc depth) work.now }
     requires work_fits { z.branches ≤ length work.now }
@@ -182,33 +166,28 @@ fn read_branch(a: &[u64], work: &[u64], z: Shape, depth: u64, r: u64) -> Seen
 {
     let child = links::kid(a, z, r, 0);
     if child == 0 {
-        return Seen::Fault;
+        return None;
     }
-    let lead = lead_of(see(a, work, z, depth + 1, child));
-    if lead == 0 {
-        return Seen::Fault;
-    }
-    read_row(a, work, z, depth, r, lead)
+    let seen = see(a, work, z, depth + 1, child)?;
+    read_row(a, work, z, depth, r, seen.lead)
 }
 
 // One word for a leftmost entry and a number of entries.
 fn keep(lead: u64, size: u64) -> u64
-    requires { (lead < 2 ^ 32) × (size < 2 ^ 32) }
+    requires lead_fits { lead < 2 ^ 32 }
+    requires size_fits { size < 2 ^ 32 }
     ensures { result ≡ kept_as lead size }
 {
     lead * 4294967296 + size
 }
 
 // Whether a branch is in use at a depth.
-fn is_at(a: &[u64], z: Shape, depth: u64, r: u64) -> bool
+fn stands_at(a: &[u64], z: Shape, depth: u64, r: u64) -> bool
     requires lent { Lent z a.now }
     requires is_branch { names_kind z 0 r ≡ true }
     ensures { result ≡ is_at (columns z a.now) depth r }
 {
-    if words::word(a, z, r, words::COUNT) == 0 {
-        return false;
-    }
-    words::word(a, z, r, words::MARK) == depth
+    words::word(a, z, r, words::COUNT) != 0 && words::word(a, z, r, words::MARK) == depth
 }
 
 // Branch `i`, where it is in use at a depth: what is below it is kept.
@@ -216,21 +195,20 @@ fn see_branch(a: &[u64], work: &mut [u64], z: Shape, depth: u64, i: u64) -> bool
     requires lent { Lent z a.now }
     requires known { Known z a.now (suc depth) work.old }
     requires work_fits { z.branches ≤ length work.old }
-    requires in_depths { (depth < z.depths) × (i < z.branches) }
+    requires in_depths { depth < z.depths }
+    requires in_branches { i < z.branches }
     ensures answers { result ≡ branch_seen z (columns z a.now) depth (reference 0 i) }
     ensures kept_at { result ≡ true → KeptAt z a.now depth work.new i }
     ensures only_at { OnlyAt z a.now depth i work.old work.new }
 {
     let r = 2 * i + 2;
-    if !is_at(a, z, depth, r) {
+    if !stands_at(a, z, depth, r) {
         return true;
     }
-    let seen = read_branch(a, &*work, z, depth, r);
-    let lead = lead_of(seen);
-    if lead == 0 {
+    let Some(seen) = read_branch(a, &*work, z, depth, r) else {
         return false;
-    }
-    work[i as usize] = keep(lead, size_of(seen));
+    };
+    work[i as usize] = keep(seen.lead, seen.size);
     true
 }
 
@@ -244,12 +222,10 @@ fn see_level(a: &[u64], work: &mut [u64], z: Shape, depth: u64) -> bool
     ensures is_known { result ≡ true → Known z a.now depth work.new }
     ensures only_branches { OnlyBranches z work.old work.new }
 {
-    let mut i = 0;
-    while i < z.branches {
+    for i in 0..z.branches {
         if !see_branch(a, &mut *work, z, depth, i) {
             return false;
         }
-        i += 1;
     }
     true
 }
@@ -263,9 +239,7 @@ pub fn see_levels(a: &[u64], work: &mut [u64], z: Shape) -> bool
     ensures is_known { result ≡ true → Known z a.now 0 work.new }
     ensures only_branches { OnlyBranches z work.old work.new }
 {
-    let mut depth = z.depths;
-    while depth > 0 {
-        depth -= 1;
+    for depth in (0..z.depths).rev() {
         if !see_level(a, &mut *work, z, depth) {
             return false;
         }
@@ -283,11 +257,10 @@ fn is_root_right(a: &[u64], work: &[u64], z: Shape, root: u64, size: u64) -> boo
     if root == 0 {
         return size == 0;
     }
-    let seen = see(a, work, z, 0, root);
-    if lead_of(seen) == 0 {
-        return false;
+    match see(a, work, z, 0, root) {
+        Some(seen) => seen.size == size,
+        None => false,
     }
-    size_of(seen) == size
 }
 
 fn is_slot_right(a: &[u64], work: &[u64], z: Shape, s: u64) -> bool
@@ -303,6 +276,7 @@ fn is_slot_right(a: &[u64], work: &[u64], z: Shape, s: u64) -> bool
     if held == 1 {
         return is_root_right(a, work, z, root, size);
     }
+    // One test after the other: a chain of && leaves the proof without what each of them said.
     if held != 0 {
         return false;
     }
@@ -319,12 +293,10 @@ pub fn are_slots_right(a: &[u64], work: &[u64], z: Shape) -> bool
     requires work_fits { z.branches ≤ length work.now }
     ensures { result ≡ slots_right z (columns z a.now) }
 {
-    let mut s = 0;
-    while s < z.slots {
+    for s in 0..z.slots {
         if !is_slot_right(a, work, z, s) {
             return false;
         }
-        s += 1;
     }
     true
 }

@@ -33,16 +33,16 @@ use Rattle.iter.proofs.Meaning.{met_shown}
 use Rattle.reads.specs.Listed.{written, written_over}
 use Rattle.reads.specs.Agrees.{is_entry_in, agree}
 use Rattle.replies.specs.declared.Refusal.TheVariants as Why
-use Rattle.replies.specs.declared.Counted.{Counted}
-use Rattle.replies.specs.declared.Found.{Found}
-use Rattle.replies.specs.declared.Compared.{Compared}
-use Rattle.replies.specs.Answers.{refused, done, counted, found, compared}
+use Rattle.replies.specs.Answers.{refused, done, number_answer, truth_answer, truth_value}
 use Rattle.replies.specs.Outcomes.{leaves, on_header}
-use Rattle.looks.specs.Calls.{root_word, size_word, value_found, get_in, get_of, list_from, held_listed, list_in, list_of, same_entries, told, equal_in, equal_of}
+use Rattle.looks.specs.Calls.{root_word, size_word, value_found, get_in, get_of, list_from, held_listed, list_in, list_of, same_entries, equal_in, equal_of}
 use Rattle.arena.specs.Holds.{Holds, Shelves}
 use Rattle.looks.specs.Terms.{Gets, Lists, Compares}
 use Rattle.replies.proofs.AnswerLaws.{header_Right}
 use Rattle.arena.proofs.Equivalent.{held_slot_lem}
+use Rattle.std.specs.Prelude.{Result, Option, Some, None, ok_or}
+use Rattle.lookup.specs.Lookup.{looked}
+use Rattle.replies.specs.declared.Refusal.{Refusal}
 
 -- THE CASES OF AN EDITION NUMBER
 module _ (z : Shape) (a : List ℕ) (e : ℕ) where
@@ -66,7 +66,7 @@ module _ (z : Shape) (a : List ℕ) (e : ℕ) where
 
   -- either edition that is not held is refused with the same number
   module _ (f : ℕ) where
-    pub equal_held : held_slot z a e ≡ true → held_slot z a f ≡ true → equal_in z a e f ≡ told (same_entries z a e f)
+    pub equal_held : held_slot z a e ≡ true → held_slot z a f ≡ true → equal_in z a e f ≡ truth_value (same_entries z a e f)
     unfolding equal_in
     equal_held q r = rw (q, r)
 
@@ -119,6 +119,11 @@ pub get_by : (z : Shape) (a : List ℕ) (e h k root : ℕ) (g : Got) → held_sl
 get_by z a e h k root g held r q =
     get_held z a e h k held ∙ ap value_found (ap (λ (x : ℕ). get_below z a x h k) (sym r) ∙ q)
 
+-- what a lookup found, as the answer of get
+pub get_value : (v : Option ℕ) (g : Got) → looked v ≡ g → number_answer (ok_or v Why.Absent) ≡ value_found g
+get_value (Some v) g q = ap value_found q
+get_value None g q = ap value_found q
+
 pub list_by : (z : Shape) (a : List ℕ) (e place : ℕ) (out : List ℕ) (root n : ℕ) (out' : List ℕ) → place < size_word z a e
     → 3 ≤ length out → root ≡ root_word z a e → n ≡ length (written (met z a root) place (length out))
     → out' ≡ written_over (written (met z a root) place (length out)) out → leaves (done n 0) out' ≡ held_listed z a e place out
@@ -133,8 +138,8 @@ same_by z a e f r s b er es ne q eb =
     eb ∙ (λ i. agree z a (er i) (es i)) ∙ sym (same_size z a e f (λ x. ne (er ∙ x ∙ sym es)) q)
 
 pub equal_by : (z : Shape) (a : List ℕ) (e f : ℕ) (b : Bool) → held_slot z a e ≡ true → held_slot z a f ≡ true
-    → same_entries z a e f ≡ b → equal_in z a e f ≡ told b
-equal_by z a e f b he hf q = equal_held z a e f he hf ∙ ap told q
+    → same_entries z a e f ≡ b → equal_in z a e f ≡ truth_value b
+equal_by z a e f b he hf q = equal_held z a e f he hf ∙ ap truth_value q
 
 -- MAPS. The trie's comparison, by the sizes, and of a map with itself
 module _ (seg : ℕ → ℕ → ℕ) (d : ℕ) (m n : Map ℕ) where
@@ -195,7 +200,7 @@ module _ (a : List ℕ) (z : Shape) (H : Header a z) where
       (eq? (root_word z a e) (root_word z a f))
 
 -- THE CONTRACTS follow from the answers
-pub gets : (a : List ℕ) (e h k : ℕ) (r : Found) → found r ≡ get_of a e h k → Gets a e h k r
+pub gets : (a : List ℕ) (e h k : ℕ) (r : Result ℕ Refusal) → number_answer r ≡ get_of a e h k → Gets a e h k r
 gets a e h k r q =
     record {
       result = q;
@@ -205,7 +210,7 @@ gets a e h k r q =
           ∙ ap value_found (get_here a z H e h k m E);
     }
 
-pub lists : (a : List ℕ) (e place : ℕ) (out : List ℕ) (r : Counted) (out' : List ℕ) → leaves (counted r) out' ≡ list_of a e place out
+pub lists : (a : List ℕ) (e place : ℕ) (out : List ℕ) (r : Result ℕ Refusal) (out' : List ℕ) → leaves (number_answer r) out' ≡ list_of a e place out
     → Lists a e place out r out'
 lists a e place out r out' q =
     record {
@@ -218,7 +223,7 @@ lists a e place out r out' q =
           ∙ list_held z a e place out (held_here z a e m S.holds) ∙ (λ i. list_from (n i) (es i) place out);
     }
 
-pub compares : (a : List ℕ) (e f : ℕ) (r : Compared) → compared r ≡ equal_of a e f → Compares a e f r
+pub compares : (a : List ℕ) (e f : ℕ) (r : Result Bool Refusal) → truth_answer r ≡ equal_of a e f → Compares a e f r
 compares a e f r q =
     record {
       result = q;
@@ -226,7 +231,7 @@ compares a e f r q =
           λ z H m n S T.
           q ∙ on_right a z H _ (λ y. equal_in y a e f)
           ∙ equal_held z a e f (held_here z a e m S.holds) (held_here z a f n T.holds)
-          ∙ ap told (same_here a z H e f m n S T);
+          ∙ ap truth_value (same_here a z H e f m n S T);
     }
 
 -- in a sound arena every held slot holds a map that can be built

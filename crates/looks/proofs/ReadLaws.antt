@@ -11,14 +11,13 @@ use Rattle.layout.proofs.HeaderLaws.{Header-says}
 use Rattle.cells.specs.Slots.{held_slot}
 use Rattle.cells.proofs.SlotLaws.{held_is}
 use Rattle.replies.specs.declared.Refusal.TheVariants as Why
-use Rattle.replies.specs.declared.Counted.{Counted}
-use Rattle.replies.specs.declared.Counted.TheVariants as C
-use Rattle.replies.specs.declared.InUse.{InUse}
-use Rattle.replies.specs.declared.InUse.TheVariants as U
-use Rattle.replies.specs.Answers.{Answer, counted, in_use_answer, refused, done}
+use Rattle.replies.specs.Answers.{Answer, number_answer, cells_answer, refused, done, cell_counts}
 use Rattle.replies.proofs.AnswerLaws.{refused_not_done, done_value, header_Right}
 use Rattle.looks.specs.Calls.{size_word, size_in, size_of, in_use_of}
 use Rattle.looks.specs.Terms.{Sizes, Uses}
+use Rattle.std.specs.Prelude.{Result, Ok, Err}
+use Rattle.replies.specs.declared.Refusal.{Refusal}
+use Rattle.replies.specs.declared.CellCounts.{CellCounts}
 
 pub size_held : (z : Shape) (a : List ℕ) (e : ℕ) → held_slot z a e ≡ true → size_in z a e ≡ done (size_word z a e) 0
 unfolding size_in
@@ -29,18 +28,20 @@ unfolding size_in
 size_not_held z a e h = rw h
 
 -- an answer that is done is of the case that is
-counted-done : (r : Counted) (n : ℕ) → counted r ≡ done n 0 → r ≡ C.Entries n
-counted-done (C.Entries m) n e = ap C.Entries (done_value m 0 n 0 e)
-counted-done (C.Refused why) n e = absurd (refused_not_done why n 0 e)
+counted-done : (r : Result ℕ Refusal) (n : ℕ) → number_answer r ≡ done n 0 → r ≡ Ok n
+counted-done (Ok m) n e = ap Ok (done_value m 0 n 0 e)
+counted-done (Err why) n e = absurd (refused_not_done why n 0 e)
 
-in_use_answer-done : (r : InUse) (b n : ℕ) → in_use_answer r ≡ done b n → r ≡ U.Cells b n
-in_use_answer-done (U.Cells x y) b n e =
+in_use_answer-done : (r : Result CellCounts Refusal) (b n : ℕ) → cells_answer r ≡ done b n → r ≡ cell_counts b n
+in_use_answer-done (Ok c) b n e =
+    let x = c.branches in
+    let y = c.entries in
     let p = ap (λ (w : Answer). w.a) e in
     let q = ap (λ (w : Answer). w.b) e in
-    λ i. U.Cells (p i) (q i)
-in_use_answer-done (U.Refused why) b n e = absurd (refused_not_done why b n e)
+    λ i. cell_counts (p i) (q i)
+in_use_answer-done (Err why) b n e = absurd (refused_not_done why b n e)
 
-pub sizes : (a : List ℕ) (e : ℕ) (r : Counted) → counted r ≡ size_of a e → Sizes a e r
+pub sizes : (a : List ℕ) (e : ℕ) (r : Result ℕ Refusal) → number_answer r ≡ size_of a e → Sizes a e r
 sizes a e r q =
     record {
       result = q;
@@ -51,7 +52,7 @@ sizes a e r q =
           ∙ ap (λ (n : ℕ). done n 0) E.sized);
     }
 
-pub uses : (a : List ℕ) (r : InUse) → in_use_answer r ≡ in_use_of a → Uses a r
+pub uses : (a : List ℕ) (r : Result CellCounts Refusal) → cells_answer r ≡ in_use_of a → Uses a r
 uses a r q =
     record {
       result = q;

@@ -11,7 +11,7 @@ use Rattle.iter.specs.Met.{met}
 use Rattle.reads.specs.Listed.{written, written_over}
 use Rattle.reads.specs.Agrees.{agree}
 use Rattle.replies.specs.declared.Refusal.TheVariants as Why
-use Rattle.replies.specs.Answers.{Answer, refused, done}
+use Rattle.replies.specs.Answers.{Answer, refused, done, truth_value}
 use Rattle.replies.specs.Outcomes.{Outcome, leaves, on_header}
 
 -- SIZE: the third word of the slot
@@ -70,13 +70,9 @@ same_entries z a e f =
     cond (eqb (root_word z a e) (root_word z a f)) true
     (cond (eqb (size_word z a e) (size_word z a f)) (agree z a (root_word z a e) (root_word z a f)) false)
 
--- 1 for equal and 0 for not
-abbrev pub told : Bool → Answer
-told b = done (cond b 1 0) 0
-
 unfoldable pub equal_in : Shape → List ℕ → ℕ → ℕ → Answer
 equal_in z a e f =
-    cond (held_slot z a e) (cond (held_slot z a f) (told (same_entries z a e f)) (refused Why.NoSuchEdition))
+    cond (held_slot z a e) (cond (held_slot z a f) (truth_value (same_entries z a e f)) (refused Why.NoSuchEdition))
     (refused Why.NoSuchEdition)
 
 abbrev pub equal_of : List ℕ → ℕ → ℕ → Answer

@@ -1,40 +1,36 @@
 -- What size, in use, get, list and equal promise: the answer and every word that they leave, as specs/Calls.antt says, and what
 -- that means. Get needs only that the slot holds a map; list and equal, that the rules can build it, as in a sound arena they all are.
-use Rattle.std.specs.Prelude.{ℕ, ◌≡◌, List}
+use Rattle.std.specs.Prelude.{ℕ, ◌≡◌, List, Result, Ok, Bool}
 use Rattle.segments.specs.Segments.{segment}
 use Rattle.trie.specs.Trie.{Map, size, get, listing, equal}
 use Rattle.layout.specs.declared.Shape.{Shape}
 use Rattle.layout.specs.Header.{Header}
 use Rattle.arena.specs.Sound.{Sound, reached_of}
-use Rattle.replies.specs.declared.Counted.{Counted}
-use Rattle.replies.specs.declared.Counted.TheVariants as C
-use Rattle.replies.specs.declared.Found.{Found}
-use Rattle.replies.specs.declared.Compared.{Compared}
-use Rattle.replies.specs.declared.InUse.{InUse}
-use Rattle.replies.specs.declared.InUse.TheVariants as U
-use Rattle.replies.specs.Answers.{counted, found, compared, in_use_answer}
+use Rattle.replies.specs.Answers.{number_answer, truth_answer, cells_answer, cell_counts, truth_value}
 use Rattle.replies.specs.Outcomes.{leaves}
 use Rattle.arena.specs.Holds.{Holds, Shelves}
-use Rattle.looks.specs.Calls.{size_of, in_use_of, get_of, value_found, list_of, list_from, equal_of, told}
+use Rattle.looks.specs.Calls.{size_of, in_use_of, get_of, value_found, list_of, list_from, equal_of}
+use Rattle.replies.specs.declared.Refusal.{Refusal}
+use Rattle.replies.specs.declared.CellCounts.{CellCounts}
 
-pub record Sizes (a : List ℕ) (e : ℕ) (r : Counted) : Type 0 where
-  pub result : counted r ≡ size_of a e
-  pub shown : (z : Shape) → Header a z → (m : Map ℕ) → Holds z a e m → r ≡ C.Entries (size m)
+pub record Sizes (a : List ℕ) (e : ℕ) (r : Result ℕ Refusal) : Type 0 where
+  pub result : number_answer r ≡ size_of a e
+  pub shown : (z : Shape) → Header a z → (m : Map ℕ) → Holds z a e m → r ≡ Ok (size m)
 
-pub record Uses (a : List ℕ) (r : InUse) : Type 0 where
-  pub result : in_use_answer r ≡ in_use_of a
-  pub reached : (s : Sound a) → r ≡ U.Cells (reached_of s.shape s.cells.reached 0) (reached_of s.shape s.cells.reached 1)
+pub record Uses (a : List ℕ) (r : Result CellCounts Refusal) : Type 0 where
+  pub result : cells_answer r ≡ in_use_of a
+  pub reached : (s : Sound a) → r ≡ cell_counts (reached_of s.shape s.cells.reached 0) (reached_of s.shape s.cells.reached 1)
 
-pub record Gets (a : List ℕ) (e h k : ℕ) (r : Found) : Type 0 where
-  pub result : found r ≡ get_of a e h k
-  pub shown : (z : Shape) → Header a z → (m : Map ℕ) → Holds z a e m → found r ≡ value_found (get (segment z.bits) z.depths h k m)
+pub record Gets (a : List ℕ) (e h k : ℕ) (r : Result ℕ Refusal) : Type 0 where
+  pub result : number_answer r ≡ get_of a e h k
+  pub shown : (z : Shape) → Header a z → (m : Map ℕ) → Holds z a e m → number_answer r ≡ value_found (get (segment z.bits) z.depths h k m)
 
-pub record Lists (a : List ℕ) (e place : ℕ) (out : List ℕ) (r : Counted) (out' : List ℕ) : Type 0 where
-  pub outcome : leaves (counted r) out' ≡ list_of a e place out
-  pub shown : (z : Shape) → Header a z → (m : Map ℕ) → Shelves z a e m → leaves (counted r) out' ≡ list_from (size m) (listing m) place out
+pub record Lists (a : List ℕ) (e place : ℕ) (out : List ℕ) (r : Result ℕ Refusal) (out' : List ℕ) : Type 0 where
+  pub outcome : leaves (number_answer r) out' ≡ list_of a e place out
+  pub shown : (z : Shape) → Header a z → (m : Map ℕ) → Shelves z a e m → leaves (number_answer r) out' ≡ list_from (size m) (listing m) place out
 
-pub record Compares (a : List ℕ) (e f : ℕ) (r : Compared) : Type 0 where
-  pub result : compared r ≡ equal_of a e f
+pub record Compares (a : List ℕ) (e f : ℕ) (r : Result Bool Refusal) : Type 0 where
+  pub result : truth_answer r ≡ equal_of a e f
   pub shown :
       (z : Shape) → Header a z → (m n : Map ℕ) → Shelves z a e m → Shelves z a f n
-      → compared r ≡ told (equal (segment z.bits) z.depths m n)
+      → truth_answer r ≡ truth_value (equal (segment z.bits) z.depths m n)

@@ -1,23 +1,21 @@
 -- A lookup on any words, step by step: what a reference names, where a path goes on, and where a search of a chain goes on.
 use Prim.Native.Nat.{ℕ, zero, suc, ◌+◌, ◌-◌, ◌≤◌, ◌<◌}
-use mathlib.Core.Path.{ap₂, ap, ◌≡◌, refl, sym, ◌∙◌}
+use mathlib.Core.Path.{ap, ◌≡◌, refl, sym, ◌∙◌}
 use mathlib.Core.Bool.{cond, true, false}
 use lib.Dec.{eqb}
 use borrow.Author.Tests.{le-ltb, eq-eqb, ne_eqb, eqb-true}
 use native.Mathlib.Omega.{arith}
-use Rattle.sparse_array.specs.declared.Place.{Place}
-use Rattle.sparse_array.specs.Places.{place_of}
+use Rattle.sparse_array.specs.Places.{Place, place_of}
 use Rattle.layout.specs.Layout.{has, kind_of, names}
 use Rattle.layout.specs.Columns.{columns, word_of_slot, word, plain_place, refs, State}
 use Rattle.layout.proofs.ColumnLaws.{plain_in, has_entry}
-use Rattle.lookup.specs.declared.Hit.{Hit}
 use Rattle.lookup.specs.Lookup.{hop, longest, value_at, get_below, child_in, kid_at, names_kind, entry_at, path_end, hit_from}
 use mathlib.Core.List.{List}
 use Rattle.cases.proofs.Cases.{split, both}
 use Rattle.layout.specs.declared.Shape.{Shape}
 use Rattle.layout.proofs.OffsetLaws.{names_low}
 use Rattle.trie.specs.Entry.{matches}
-use Rattle.lookup.specs.declared.Hit.TheVariants.{At, Nowhere}
+use Rattle.std.specs.Prelude.{Option, Some, None}
 
 -- KINDS. A reference names a branch, or an entry, exactly if it names a cell of that kind.
 module _ (z : Shape) (k r : ℕ) where
@@ -56,12 +54,12 @@ module _ (z : Shape) (σ : State) (h : ℕ) where
 
 -- A search ends where there is no entry, and where the entry has the hash and the key; else it goes on with the next.
 module _ (z : Shape) (σ : State) (h k : ℕ) where
-  pub hit_ends : (n r : ℕ) → names_kind z 1 r ≡ false → hit_from z σ h k n r ≡ Nowhere
+  pub hit_ends : (n r : ℕ) → names_kind z 1 r ≡ false → hit_from z σ h k n r ≡ None
   unfolding hit_from
   hit_ends zero r e = refl
   hit_ends (suc n) r e = rw e
 
-  pub hit_here : (n r : ℕ) → names_kind z 1 r ≡ true → matches h k (entry_at σ r) ≡ true → hit_from z σ h k (suc n) r ≡ At r
+  pub hit_here : (n r : ℕ) → names_kind z 1 r ≡ true → matches h k (entry_at σ r) ≡ true → hit_from z σ h k (suc n) r ≡ Some r
   unfolding hit_from
   hit_here n r e q = rw (e, q)
 
@@ -71,13 +69,13 @@ module _ (z : Shape) (σ : State) (h k : ℕ) where
   hit_later n r e q = rw (e, q)
 
 -- a hit is an entry
-At-Nowhere : (q : ℕ) → Nowhere ≡ At q → ⊥
+At-Nowhere : (q : ℕ) → None ≡ Some q → ⊥
 At-Nowhere q e = let n : ◌≡◌ {A = ℕ} 0 1 = cc in omega arith
 
-same_hit : (r q : ℕ) → At r ≡ At q → r ≡ q
+same_hit : (r q : ℕ) → Some r ≡ Some q → r ≡ q
 same_hit r q e = cc
 
-pub hit_names : (z : Shape) (σ : State) (h k n r q : ℕ) → hit_from z σ h k n r ≡ At q → names_kind z 1 q ≡ true
+pub hit_names : (z : Shape) (σ : State) (h k n r q : ℕ) → hit_from z σ h k n r ≡ Some q → names_kind z 1 q ≡ true
 hit_names z σ h k zero r q e = absurd (At-Nowhere q (unfold hit_from in e))
 hit_names z σ h k (suc n) r q e =
     split (names_kind z 1 r)
@@ -141,24 +139,23 @@ module _ (z : Shape) (σ : State) (h : ℕ) where
   path_over d t r l = let n : d - t ≡ 0 = omega arith in rw n
 
 module _ (z : Shape) (σ : State) (h k : ℕ) where
-  pub search_here : (n r : ℕ) → 0 < n → names_kind z 1 r ≡ true → matches h k (entry_at σ r) ≡ true → hit_from z σ h k n r ≡ At r
+  pub search_here : (n r : ℕ) → 0 < n → names_kind z 1 r ≡ true → matches h k (entry_at σ r) ≡ true → hit_from z σ h k n r ≡ Some r
   search_here zero r l e q = absurd (omega arith)
   search_here (suc n) r l e q = hit_here z σ h k n r e q
 
-  pub search_on : (n r c : ℕ) → 0 < n → names_kind z 1 r ≡ true → matches h k (entry_at σ r) ≡ false → c ≡ σ.kid r 0
-      → hit_from z σ h k n r ≡ hit_from z σ h k (n - 1) c
-  search_on zero r c l e q y = absurd (omega arith)
-  search_on (suc n) r c l e q y =
-      let m : suc n - 1 ≡ n = omega arith in
-      hit_later z σ h k n r e q ∙ ap₂ (λ (i j : ℕ). hit_from z σ h k i j) (sym m) (sym y)
+  pub search_on : (d t r c : ℕ) → t < d → names_kind z 1 r ≡ true → matches h k (entry_at σ r) ≡ false → c ≡ σ.kid r 0
+      → hit_from z σ h k (d - t) r ≡ hit_from z σ h k (d - (t + 1)) c
+  search_on d t r c l e q y =
+      let n : d - t ≡ suc (d - (t + 1)) = omega arith in
+      rw (n, y) (hit_later z σ h k (d - (t + 1)) r e q)
 
-  pub search_over : (n r : ℕ) → n ≡ 0 → hit_from z σ h k n r ≡ Nowhere
+  pub search_over : (n r : ℕ) → n ≡ 0 → hit_from z σ h k n r ≡ None
   unfolding hit_from
   search_over n r e = rw e
 
 -- what is planned by the search below an edition's root, by what was read on the way
-pub survey_is : {A : Type 0} (plan : Shape → State → ℕ → ℕ → ℕ → ℕ → Hit → A) (z : Shape) (a : List ℕ) (e h k root size front : ℕ)
-    (hit : Hit) (p : A) → root ≡ word_of_slot z a e 1 → size ≡ word_of_slot z a e 2
+pub survey_is : {A : Type 0} (plan : Shape → State → ℕ → ℕ → ℕ → ℕ → Option ℕ → A) (z : Shape) (a : List ℕ) (e h k root size front : ℕ)
+    (hit : Option ℕ) (p : A) → root ≡ word_of_slot z a e 1 → size ≡ word_of_slot z a e 2
     → front ≡ path_end z (columns z a) h z.depths 0 root → hit_from z (columns z a) h k (longest z) front ≡ hit
     → p ≡ plan z (columns z a) root size h front hit
     → p ≡ plan z (columns z a) ((columns z a).root e) ((columns z a).size e) h
@@ -167,7 +164,7 @@ pub survey_is : {A : Type 0} (plan : Shape → State → ℕ → ℕ → ℕ →
 survey_is plan z a e h k root size front hit p er es ef eh ep = rw (← er, ← es, ← ef, eh) ep
 
 -- the value below a root, by where the path ends
-pub value_below : (z : Shape) (a : List ℕ) (r h k front : ℕ) (v : Hit) → front ≡ path_end z (columns z a) h z.depths 0 r
+pub value_below : (z : Shape) (a : List ℕ) (r h k front : ℕ) (v : Option ℕ) → front ≡ path_end z (columns z a) h z.depths 0 r
     → hit_from z (columns z a) h k (longest z) front ≡ v → get_below z a r h k ≡ value_at (columns z a) v
 value_below z a r h k front v ef ev =
     ap (value_at (columns z a)) (ap (λ (x : ℕ). hit_from z (columns z a) h k (longest z) x) (sym ef) ∙ ev)

@@ -21,10 +21,10 @@ use Rattle.trie.proofs.CopyLaws.{Parts, parts_here, parts_later, parts_length}
 use Rattle.trie.proofs.PathLaws.{find_none, chain_of, get_chain}
 use Rattle.arena.specs.Shows.{ShowsChain, ShowsMap}
 use Rattle.arena.proofs.Few.{chain_few, columns_live}
-use Rattle.lookup.specs.declared.Hit.TheVariants.{At, Nowhere}
 use Rattle.lookup.specs.Lookup.{names_kind, entry_at, longest, path_end, hit_from}
 use Rattle.lookup.proofs.FindLaws.{kind_other, hit_ends, hit_here, hit_later}
 use Rattle.lookup.proofs.Meaning.{live_named, chain_named, chain_test, map_path_shows}
+use Rattle.std.specs.Prelude.{Some, None}
 
 -- the chain xs is shown from r on, and from q on its part that begins with the key
 pub record Split (σ : State) (h k : ℕ) (xs : List (Item ℕ)) (r q : ℕ) : Type 0 where
@@ -57,7 +57,7 @@ module _ {σ : State} {h k : ℕ} {xs : List (Item ℕ)} {r q : ℕ} (s : Split 
 module _ (z : Shape) (σ : State) (live : (r : ℕ) → 0 < σ.count r → names z r ≡ true) (h k : ℕ) where
   -- a search that is long enough finds a key that stands there
   pub hit_shown : (n : ℕ) (xs : List (Item ℕ)) (r v : ℕ) → ShowsChain σ xs r → length xs ≤ n → find h k xs ≡ got v
-      → (q : ℕ) × (hit_from z σ h k n r ≡ At q) × Split σ h k xs r q
+      → (q : ℕ) × (hit_from z σ h k n r ≡ Some q) × Split σ h k xs r q
   hit_shown n [] r v c l e = let f : ◌≡◌ {A = ℕ} 0 1 = cc (find_none ℕ h k) in absurd (omega arith)
   hit_shown zero (x ∷ xs) r v c l e = absurd (omega arith)
   hit_shown (suc n) (x ∷ xs) r v c l e =
@@ -83,7 +83,7 @@ module _ (z : Shape) (σ : State) (live : (r : ℕ) → 0 < σ.count r → names
 
   -- and nothing where the key is not there, however long it is
   pub hit_none : (n : ℕ) (xs : List (Item ℕ)) (r : ℕ) → ShowsChain σ xs r → find h k xs ≡ absent
-      → hit_from z σ h k n r ≡ Nowhere
+      → hit_from z σ h k n r ≡ None
   hit_none n [] r c e =
       let none : r ≡ 0 = unfold ShowsChain in c in hit_ends z σ h k n r (kind_other z 1 r (λ o. omega arith))
   hit_none zero (x ∷ xs) r c e = unfold hit_from in refl
@@ -106,7 +106,7 @@ module _ (z : Shape) (a : List ℕ) (w : Allowed z) (W : Entry → Type 0) (h k 
   end = path_end z (columns z a) h z.depths 0 r
 
   pub map_hit_there : (v : ℕ) → get (segment z.bits) z.depths h k m ≡ got v
-      → (q : ℕ) × (hit_from z (columns z a) h k (longest z) (path_end z (columns z a) h z.depths 0 r) ≡ At q)
+      → (q : ℕ) × (hit_from z (columns z a) h k (longest z) (path_end z (columns z a) h z.depths 0 r) ≡ Some q)
       × Split (columns z a) h k (chain_of (segment z.bits) z.depths h m) (path_end z (columns z a) h z.depths 0 r) q
   map_hit_there v e =
       let s : ShowsChain (columns z a) chain_in end = map_path_shows z a w W h m r fit c in
@@ -115,7 +115,7 @@ module _ (z : Shape) (a : List ℕ) (w : Allowed z) (W : Entry → Type 0) (h k 
       (sym (get_chain (segment z.bits) z.depths h k m) ∙ e)
 
   pub map_hit_none : get (segment z.bits) z.depths h k m ≡ absent
-      → hit_from z (columns z a) h k (longest z) (path_end z (columns z a) h z.depths 0 r) ≡ Nowhere
+      → hit_from z (columns z a) h k (longest z) (path_end z (columns z a) h z.depths 0 r) ≡ None
   map_hit_none e =
       hit_none z (columns z a) (live_named z a w) h k (longest z) chain_in end (map_path_shows z a w W h m r fit c)
       (sym (get_chain (segment z.bits) z.depths h k m) ∙ e)

@@ -1,18 +1,12 @@
 -- What a lookup meets, on any words: document 01, "The trie" and "Depths", followed through the columns of an arena. On an
 -- edition this is what the trie's own definition finds (proofs/Meaning.antt); on damaged words it is what the walk comes to.
-use Rattle.std.specs.Prelude.{ℕ, zero, suc, Bool, false, cond, List, eqb}
+use Rattle.std.specs.Prelude.{ℕ, zero, suc, Bool, false, cond, List, eqb, Option, Some, None, Ok, Err}
 use Rattle.segments.specs.Segments.{segment}
-use Rattle.sparse_array.specs.declared.Place.{Place}
-use Rattle.sparse_array.specs.declared.Place.TheVariants as P
-use Rattle.sparse_array.specs.Places.{place_of}
+use Rattle.sparse_array.specs.Places.{Place, place_of}
 use Rattle.trie.specs.Entry.{Entry, matches, Got, absent, got}
 use Rattle.layout.specs.declared.Shape.{Shape}
 use Rattle.layout.specs.Layout.{kind_of, names}
 use Rattle.layout.specs.Columns.{State, columns}
-use Rattle.lookup.specs.declared.Hit.{Hit}
-use Rattle.lookup.specs.declared.Hit.TheVariants.{At, Nowhere}
-use Rattle.lookup.specs.declared.Looked.{Looked}
-use Rattle.lookup.specs.declared.Looked.TheVariants as L
 
 -- whether a reference names a branch cell, or an entry cell: its kind is 0, or 1
 unfoldable pub names_kind : Shape → ℕ → ℕ → Bool
@@ -24,9 +18,9 @@ entry_at σ r = record { hash = σ.plain r 0; key = σ.plain r 1; value = σ.pla
 
 -- the child at a place among the packed ones; 0 where there is none
 abbrev pub child_in : State → ℕ → Place → ℕ
-child_in σ r (P.At i) = σ.kid r i
-child_in σ r P.Nothing = 0
-child_in σ r P.Refused = 0
+child_in σ r (Ok (Some i)) = σ.kid r i
+child_in σ r (Ok None) = 0
+child_in σ r (Err _) = 0
 
 -- the child of the branch r at a segment, by the branch's bitmap
 abbrev pub kid_at : State → ℕ → ℕ → ℕ
@@ -42,28 +36,28 @@ path_end z σ h zero t r = r
 path_end z σ h (suc n) t r = cond (names_kind z 0 r) (path_end z σ h n (suc t) (hop z σ h t r)) r
 
 -- the first of at most n entries from r on that has this hash and this key
-unfoldable pub hit_from : Shape → State → ℕ → ℕ → ℕ → ℕ → Hit
-hit_from z σ h k zero r = Nowhere
+unfoldable pub hit_from : Shape → State → ℕ → ℕ → ℕ → ℕ → Option ℕ
+hit_from z σ h k zero r = None
 hit_from z σ h k (suc n) r =
-    cond (names_kind z 1 r) (cond (matches h k (entry_at σ r)) (At r) (hit_from z σ h k n (σ.kid r 0))) Nowhere
+    cond (names_kind z 1 r) (cond (matches h k (entry_at σ r)) (Some r) (hit_from z σ h k n (σ.kid r 0))) None
 
 -- a chain has no more entries than the arena
 abbrev pub longest : Shape → ℕ
 longest z = z.entries
 
 -- the entry below a root
-abbrev pub hit_below : Shape → List ℕ → ℕ → ℕ → ℕ → Hit
+abbrev pub hit_below : Shape → List ℕ → ℕ → ℕ → ℕ → Option ℕ
 hit_below z a r h k = hit_from z (columns z a) h k (longest z) (path_end z (columns z a) h z.depths 0 r)
 
-abbrev pub value_at : State → Hit → Got
-value_at σ (At r) = got (σ.plain r 2)
-value_at σ Nowhere = absent
+abbrev pub value_at : State → Option ℕ → Got
+value_at σ (Some r) = got (σ.plain r 2)
+value_at σ None = absent
 
 -- the value below a root
 abbrev pub get_below : Shape → List ℕ → ℕ → ℕ → ℕ → Got
 get_below z a r h k = value_at (columns z a) (hit_below z a r h k)
 
 -- an answer of the code as one of the trie
-abbrev pub looked : Looked → Got
-looked (L.Value v) = got v
-looked L.Missing = absent
+abbrev pub looked : Option ℕ → Got
+looked (Some v) = got v
+looked None = absent

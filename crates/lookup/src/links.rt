@@ -7,6 +7,7 @@ ghost use Rattle.lookup.specs.Lookup.{names_kind};
 use layout::{Shape, words};
 
 // Whether a reference names a cell of this kind: 0 is a branch, 1 an entry.
+#[tactic(auto, unfolding(crate::specs::Lookup::names_kind))]
 fn is_kind(z: Shape, kind: u64, r: u64) -> bool
     ensures { result ≡ names_kind z kind r }
 {
@@ -26,6 +27,7 @@ pub fn is_entry(z: Shape, r: u64) -> bool
 }
 
 // How many references the cell holds: a branch as many as the degree, an entry its next.
+#[tactic(auto, unfolding(layout::specs::Columns::refs, layout::specs::Columns::kids_of))]
 fn kids(z: Shape, r: u64) -> u64
     ensures { result ≡ refs z r }
 {
@@ -36,6 +38,7 @@ fn kids(z: Shape, r: u64) -> u64
 }
 
 // Reference `i` of the cell that `r` names: a branch's child, or an entry's next. 0 where there is none.
+#[tactic(auto, using(layout::proofs::ColumnLaws::has_kid, layout::proofs::ColumnLaws::refs_few, layout::proofs::ColumnLaws::kid_in, crate::proofs::FindLaws::kid_out))]
 pub fn kid(a: &[u64], z: Shape, r: u64, i: u64) -> u64
     requires { Lent z a.now }
     ensures { result ≡ (columns z a.now).kid r i }

@@ -5,20 +5,16 @@ use std::io;
 fn row(rt: &impl Print, a: &[u64], first: u64) -> io::Result<()> {
     print::decimal(rt, b"  ", first)?;
     print::say(rt, b":")?;
-    let mut second = 0;
-    while second <= stored::EDITIONS {
+    for second in 0..=stored::EDITIONS {
         answer::say_compared(rt, shelf::equal(a, first, second))?;
-        second += 1;
     }
     print::say(rt, b"\n")
 }
 
 pub fn show(rt: &impl Print, a: &[u64]) -> io::Result<()> {
     print::say(rt, b"Equal (=) or not (.), editions 0 to 9 with 0 to 9\n")?;
-    let mut first = 0;
-    while first <= stored::EDITIONS {
+    for first in 0..=stored::EDITIONS {
         row(rt, a, first)?;
-        first += 1;
     }
     Ok(())
 }

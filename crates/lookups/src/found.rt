@@ -6,10 +6,8 @@ use std::io;
 
 fn get_all(rt: &impl Print, a: &[u64], label: &[u8], hash: u64, key: u64) -> io::Result<()> {
     print::say(rt, label)?;
-    let mut edition = 0;
-    while edition <= stored::EDITIONS {
+    for edition in 0..=stored::EDITIONS {
         answer::say_got(rt, shelf::get(a, edition, hash, key))?;
-        edition += 1;
     }
     print::say(rt, b"\n")
 }

@@ -12,7 +12,7 @@ const MARK: u64 = 99;
 const FULL: usize = 17;
 
 fn word(words: &[u64], i: usize) -> u64 {
-    if i < words.len() { words[i] } else { MARK }
+    words.get(i).copied().unwrap_or(MARK)
 }
 
 fn whole(rt: &impl Print, a: &[u64], edition: u64) -> io::Result<()> {
@@ -25,17 +25,15 @@ fn whole(rt: &impl Print, a: &[u64], edition: u64) -> io::Result<()> {
 fn is_part(all: &[u64], place: usize, n: u64, out: &[u64]) -> bool
     requires { place ≤ 6 }
 {
-    let mut i = 0;
-    while i < out.len() {
+    for (i, found) in out.iter().enumerate() {
         let want = if i as u64 / 3 < n {
             word(all, 3 * place + i)
         } else {
             MARK
         };
-        if out[i] != want {
+        if *found != want {
             return false;
         }
-        i += 1;
     }
     true
 }
@@ -59,28 +57,22 @@ fn every_room(rt: &impl Print, a: &[u64], all: &[u64], place: usize) -> io::Resu
 {
     print::decimal(rt, b"  from ", place as u64)?;
     print::say(rt, b":")?;
-    let mut room = 0;
-    while room <= FULL {
+    for room in 0..=FULL {
         from_place(rt, a, all, place, room)?;
-        room += 1;
     }
     print::say(rt, b"\n")
 }
 
 pub fn show(rt: &impl Print, a: &[u64]) -> io::Result<()> {
     print::say(rt, b"Listed whole\n")?;
-    let mut edition = 0;
-    while edition <= stored::EDITIONS {
+    for edition in 0..=stored::EDITIONS {
         whole(rt, a, edition)?;
-        edition += 1;
     }
     print::say(rt, b"K5 from each place, with room for 0 to 17 words\n")?;
     let mut all = [MARK; FULL];
-    shelf::list(a, 0, 0, &mut all);
-    let mut place = 0;
-    while place <= 6 {
+    let _ = shelf::list(a, 0, 0, &mut all);
+    for place in 0..=6 {
         every_room(rt, a, &all, place)?;
-        place += 1;
     }
     Ok(())
 }

@@ -19,22 +19,15 @@ pub const WORDS: usize = 815;
 
 pub const EDITIONS: u64 = 9;
 
-// The words of a slot or a cell, which has `width`; those behind the given ones stay as they are. Answers where the next
-// begins.
+// The words of a slot or a cell, which has `width`; those behind the given ones stay as they are, and none is laid beyond the
+// arena. Answers where the next begins.
 fn lay(a: &mut [u64], at: usize, width: usize, words: &[u64]) -> usize {
-    let mut i = at;
-    let mut k = 0;
-    while k < width {
-        if a.len() <= i {
-            return i;
+    if let Some(room) = a.get_mut(at..) {
+        for (place, word) in room.iter_mut().zip(words) {
+            *place = *word;
         }
-        if k < words.len() {
-            a[i] = words[k];
-        }
-        i += 1;
-        k += 1;
     }
-    i
+    at.saturating_add(width)
 }
 
 fn slot(a: &mut [u64], at: usize, held: u64, root: u64, size: u64) -> usize {
@@ -74,10 +67,8 @@ fn path(a: &mut [u64], from: usize, first: u64, chain: u64) -> usize
     requires { first ≤ 40 }
 {
     let mut at = from;
-    let mut depth = 1;
-    while depth < 15 {
+    for depth in 1..15 {
         at = branch(a, at, 1, depth, 1, first + 2 * depth, 0, 0);
-        depth += 1;
     }
     branch(a, at, 1, 15, 128, chain, 0, 0)
 }

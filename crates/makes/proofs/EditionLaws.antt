@@ -17,17 +17,13 @@ use Rattle.layout.proofs.OffsetLaws.{names_low}
 use Rattle.layout.proofs.HeaderLaws.{Header-says}
 use Rattle.arena.specs.Shows.{ShowsMap}
 use Rattle.arena.specs.Sound.{Sound}
-use Rattle.cells.specs.declared.Slot.{Slot}
-use Rattle.cells.specs.declared.Slot.TheVariants.{At, NoneFree}
 use Rattle.cells.specs.Slots.{held_slot, free_slot}
 use Rattle.cells.specs.Mirrors.{share_words}
 use Rattle.cells.proofs.SlotLaws.{held_says, Lowest, free_slot-Lowest}
 use Rattle.cells.proofs.StepColumns.{share_none}
 use Rattle.replies.specs.declared.Refusal.{Refusal}
 use Rattle.replies.specs.declared.Refusal.TheVariants as Why
-use Rattle.replies.specs.declared.Made.{Made}
-use Rattle.replies.specs.declared.Made.TheVariants as M
-use Rattle.replies.specs.Answers.{made, refused, done}
+use Rattle.replies.specs.Answers.{number_answer, refused, done}
 use Rattle.replies.proofs.AnswerLaws.{refused_not_done, done_value, header_Right, slot_at, slot_none}
 use Rattle.replies.specs.Outcomes.{Outcome, leaves, on_header}
 use Rattle.makes.specs.Calls.{new_to, new_edition_in, new_edition_of, share_to, held_shared, share_in, share_of}
@@ -36,22 +32,23 @@ use Rattle.makes.specs.Terms.{MakesNew, Shares}
 use Rattle.makes.proofs.PutLaws.{put_kept, put_new, put_Sound}
 use Rattle.arena.proofs.Equivalent.{held_slot_lem}
 use Rattle.arena.proofs.Shelved.{slots_in}
+use Rattle.std.specs.Prelude.{Option, Some, None, Result, Ok}
 
 -- what the code leaves, case by case
 module _ (z : Shape) (a : List ℕ) where
-  pub new_At : (s : ℕ) → free_slot z a ≡ At s → new_edition_in z a ≡ leaves (done s 0) (new_to z a s)
+  pub new_At : (s : ℕ) → free_slot z a ≡ Some s → new_edition_in z a ≡ leaves (done s 0) (new_to z a s)
   unfolding new_edition_in
   new_At s e = slot_at (free_slot z a) _ _ s e
 
-  pub new_none : free_slot z a ≡ NoneFree → new_edition_in z a ≡ leaves (refused Why.NoSlot) a
+  pub new_none : free_slot z a ≡ None → new_edition_in z a ≡ leaves (refused Why.NoSlot) a
   unfolding new_edition_in
   new_none e = slot_none (free_slot z a) _ _ e
 
-  pub share_At : (i s : ℕ) → free_slot z a ≡ At s → held_shared z a i ≡ leaves (done s 0) (share_to z a i s)
+  pub share_At : (i s : ℕ) → free_slot z a ≡ Some s → held_shared z a i ≡ leaves (done s 0) (share_to z a i s)
   unfolding held_shared
   share_At i s e = slot_at (free_slot z a) _ _ s e
 
-  pub share_NoneFree : (i : ℕ) → free_slot z a ≡ NoneFree → held_shared z a i ≡ leaves (refused Why.NoSlot) a
+  pub share_NoneFree : (i : ℕ) → free_slot z a ≡ None → held_shared z a i ≡ leaves (refused Why.NoSlot) a
   unfolding held_shared
   share_NoneFree i e = slot_none (free_slot z a) _ _ e
 
@@ -86,9 +83,9 @@ new_Means : (a : List ℕ) (z : Shape) → Header a z → Means a z (λ e m. m �
 unfolding new_to
 new_Means a z h = by (free_slot z a) refl
   where
-    by : (y : Slot) → free_slot z a ≡ y → Means a z (λ e m. m ≡ empty) (new_edition_in z a)
-    by NoneFree e = rw (new_none z a e) (refusal_Means a z _ Why.NoSlot)
-    by (At s) e =
+    by : (y : Option ℕ) → free_slot z a ≡ y → Means a z (λ e m. m ≡ empty) (new_edition_in z a)
+    by None e = rw (new_none z a e) (refusal_Means a z _ Why.NoSlot)
+    by (Some s) e =
         let w = free_slot-Lowest z a s e in
         let same : set_slot_words z (share_words z a 0) s 1 0 0 ≡ new_to z a s
         = ap (λ (x : List ℕ). set_slot_words z x s 1 0 0) (share_none z a 0 (names_low z 0 (omega arith))) in
@@ -106,7 +103,7 @@ new_Means a z h = by (free_slot z a) refl
               rw (sym same, em, sym (done_value s 0 i 0 q)) (put_new z a h s 0 0 w.slot w.not_held empty sh sz);
         })
 
-made-Edition : (r : Made) (e : ℕ) → r ≡ M.Edition e → made r ≡ done e 0
+made-Edition : (r : Result ℕ Refusal) (e : ℕ) → r ≡ Ok e → number_answer r ≡ done e 0
 made-Edition r e q = rw q
 
 -- a contract follows from the outcome, in the header's two cases
@@ -128,10 +125,10 @@ module _ (a : List ℕ) (N : Shape → ℕ → Map ℕ → Type 0) (f : Shape �
   called-Sound : Sound a → Sound called.words
   called-Sound S = rw (called_right S.shape S.header) ((right S.shape S.header).sound S)
 
-pub makes_new : (a : List ℕ) (r : Made) (b : List ℕ) → leaves (made r) b ≡ new_edition_of a → MakesNew a r b
+pub makes_new : (a : List ℕ) (r : Result ℕ Refusal) (b : List ℕ) → leaves (number_answer r) b ≡ new_edition_of a → MakesNew a r b
 makes_new a r b e =
     let eb : (new_edition_of a).words ≡ b = ap (λ (o : Outcome). o.words) (sym e) in
-    let er : made r ≡ (new_edition_of a).answer = ap (λ (o : Outcome). o.answer) e in
+    let er : number_answer r ≡ (new_edition_of a).answer = ap (λ (o : Outcome). o.answer) e in
     record {
       outcome = e;
       sound = λ S. subst (λ (w : List ℕ). Sound w) eb (called-Sound a (λ z f m. m ≡ empty) _ (new_Means a) S);
@@ -161,14 +158,14 @@ share_Means a i z h =
     (λ t. let w = held_says z a i t in rw (held_shared_lem z a i t) (by w.0 w.1 (free_slot z a) refl))
     (λ t. rw (share_not_held z a i t) (refusal_Means a z _ Why.NoSuchEdition))
   where
-    by : i < z.slots → word_of_slot z a i 0 ≡ 1 → (y : Slot) → free_slot z a ≡ y → Means a z (λ e m. Holds z a i m) (held_shared z a i)
-    by li hi NoneFree e = rw (share_NoneFree z a i e) (refusal_Means a z _ Why.NoSlot)
-    by li hi (At s) e = rw (share_At z a i s e) (share_to-Means a z h i s li hi (free_slot-Lowest z a s e))
+    by : i < z.slots → word_of_slot z a i 0 ≡ 1 → (y : Option ℕ) → free_slot z a ≡ y → Means a z (λ e m. Holds z a i m) (held_shared z a i)
+    by li hi None e = rw (share_NoneFree z a i e) (refusal_Means a z _ Why.NoSlot)
+    by li hi (Some s) e = rw (share_At z a i s e) (share_to-Means a z h i s li hi (free_slot-Lowest z a s e))
 
-pub shares : (a : List ℕ) (i : ℕ) (r : Made) (b : List ℕ) → leaves (made r) b ≡ share_of a i → Shares a i r b
+pub shares : (a : List ℕ) (i : ℕ) (r : Result ℕ Refusal) (b : List ℕ) → leaves (number_answer r) b ≡ share_of a i → Shares a i r b
 shares a i r b e =
     let eb : (share_of a i).words ≡ b = ap (λ (o : Outcome). o.words) (sym e) in
-    let er : made r ≡ (share_of a i).answer = ap (λ (o : Outcome). o.answer) e in
+    let er : number_answer r ≡ (share_of a i).answer = ap (λ (o : Outcome). o.answer) e in
     record {
       outcome = e;
       sound = λ S. subst (λ (w : List ℕ). Sound w) eb (called-Sound a (λ z f m. Holds z a i m) _ (share_Means a i) S);

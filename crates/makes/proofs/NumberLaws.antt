@@ -8,14 +8,10 @@ use native.Mathlib.Omega.{arith}
 use lib.ListN.{length}
 use Rattle.cases.proofs.Cases.{split, lt?}
 use Rattle.segments.specs.Segments.{row_of}
-use Rattle.segments.specs.declared.DegreeRow.{DegreeRow}
-use Rattle.segments.specs.declared.DegreeRow.TheVariants.{Found, NotInTable}
 use Rattle.layout.specs.declared.Shape.{Shape}
-use Rattle.layout.specs.declared.Shaped.TheVariants.{Fits, BadSizes}
 use Rattle.layout.specs.Layout.{total}
 use Rattle.layout.specs.Header.{are_sizes_fit, shape, shape_of}
 use Rattle.layout.proofs.HeaderLaws.{shape-Fits, shape_sizes, shape_degree}
-use Rattle.cells.specs.declared.Slot.TheVariants.{At, NoneFree}
 use Rattle.cells.specs.Slots.{free_slot}
 use Rattle.cells.proofs.SlotLaws.{held_is}
 use Rattle.replies.specs.declared.Refusal.TheVariants as Why
@@ -25,27 +21,31 @@ use Rattle.makes.specs.Calls.{format_of, new_to, new_edition_in, new_edition_of,
 use Rattle.makes.proofs.FormatLaws.{format_done, format_short, format_degree, format_sizes}
 use Rattle.makes.proofs.EditionLaws.{new_At, new_none, share_At, share_NoneFree, held_shared_lem, share_not_held}
 use Rattle.replies.proofs.Tables.{AllHeld, End, Gives, HeaderNumbered, Held, Numbered, Row, by_free, by_Held, end, Gives-done, Gives-refusal, header_numbered, not_Held-Gives, numbered, row}
+use Rattle.std.specs.Prelude.{Option, Some, None, Ok, Err}
+use Rattle.layout.specs.declared.Misfit.TheVariants.{BadSizes}
+use Rattle.segments.specs.declared.DegreeRow.{DegreeRow}
+use Rattle.segments.specs.Segments.{found}
 
 -- FORMAT
 module _ (a : List ℕ) (g b n s : ℕ) where
   abbrev pub FormatWhen : ℕ → Type 0
   FormatWhen =
-      Row 1 (row_of g ≡ NotInTable)
-      (Row 2 ((row_of g ≡ NotInTable → ⊥) × (are_sizes_fit b n s ≡ false))
-      (Row 3 ((z : Shape) × (shape_of g b n s ≡ Fits z) × (length a < total z))
-      (Row 0 ((z : Shape) × (shape_of g b n s ≡ Fits z) × (total z ≤ length a)) End)))
+      Row 1 (row_of g ≡ None)
+      (Row 2 ((row_of g ≡ None → ⊥) × (are_sizes_fit b n s ≡ false))
+      (Row 3 ((z : Shape) × (shape_of g b n s ≡ Ok z) × (length a < total z))
+      (Row 0 ((z : Shape) × (shape_of g b n s ≡ Ok z) × (total z ≤ length a)) End)))
 
-  shape_BadSizes : (o : DegreeRow) → row_of g ≡ o → (row_of g ≡ NotInTable → ⊥) → are_sizes_fit b n s ≡ false → shape_of g b n s ≡ BadSizes
-  shape_BadSizes (Found bits depths last) r ne f = shape_sizes g b n s bits depths last r f
-  shape_BadSizes NotInTable r ne f = absurd (ne r)
+  shape_BadSizes : (o : Option DegreeRow) → row_of g ≡ o → (row_of g ≡ None → ⊥) → are_sizes_fit b n s ≡ false → shape_of g b n s ≡ Err BadSizes
+  shape_BadSizes (Some x) r ne f = shape_sizes g b n s x.bits x.depths x.last r f
+  shape_BadSizes None r ne f = absurd (ne r)
 
-  format_row : (o : DegreeRow) → row_of g ≡ o → (k : ℕ) × FormatWhen k
-  format_row NotInTable r = (1, r)
-  format_row (Found bits depths last) r =
-      let z = shape g bits depths b n s in
+  format_row : (o : Option DegreeRow) → row_of g ≡ o → (k : ℕ) × FormatWhen k
+  format_row None r = (1, r)
+  format_row (Some x) r =
+      let z = shape g x.bits x.depths b n s in
       split (are_sizes_fit b n s)
       (λ f.
-      let e = shape-Fits g b n s bits depths last r f in
+      let e = shape-Fits g b n s x.bits x.depths x.last r f in
       ⊎_elim (λ l. (3, (z, e, l))) (λ l. (0, (z, e, l))) (lt? (length a) (total z)))
       (λ f. (2, (λ q. let m : ◌≡◌ {A = ℕ} 0 1 = cc in omega arith, f)))
 
@@ -59,8 +59,8 @@ module _ (a : List ℕ) (g b n s : ℕ) where
       (format_row (row_of g) refl)
 
 -- 7 or done, where an edition is put in the lowest free slot
-put_Gives : (z : Shape) (a : List ℕ) (o : Outcome) (b : ℕ → List ℕ) → (free_slot z a ≡ NoneFree → o ≡ leaves (refused Why.NoSlot) a)
-    → ((s : ℕ) → free_slot z a ≡ At s → o ≡ leaves (done s 0) (b s)) → (AllHeld z a → Gives a o 7) × ((AllHeld z a → ⊥) → Gives a o 0)
+put_Gives : (z : Shape) (a : List ℕ) (o : Outcome) (b : ℕ → List ℕ) → (free_slot z a ≡ None → o ≡ leaves (refused Why.NoSlot) a)
+    → ((s : ℕ) → free_slot z a ≡ Some s → o ≡ leaves (done s 0) (b s)) → (AllHeld z a → Gives a o 7) × ((AllHeld z a → ⊥) → Gives a o 0)
 put_Gives z a o b none at = (
   λ all. by_free z a (λ q v. Gives-refusal Why.NoSlot (none q)) (λ s q n. absurd (n all)),
   λ some. by_free z a (λ q v. absurd (some v)) (λ s q n. Gives-done (at s q)),

@@ -1,9 +1,7 @@
 -- What format, new edition and share answer and every word that they leave, on any words: document 01, "Answer numbers", its tests
 -- in its order.
-use Rattle.std.specs.Prelude.{ℕ, cond, List, leb, length}
+use Rattle.std.specs.Prelude.{ℕ, cond, List, leb, length, Result, Ok, Err}
 use Rattle.layout.specs.declared.Shape.{Shape}
-use Rattle.layout.specs.declared.Shaped.{Shaped}
-use Rattle.layout.specs.declared.Shaped.TheVariants.{Fits, BadDegree, BadSizes}
 use Rattle.layout.specs.Layout.{total}
 use Rattle.layout.specs.Header.{shape_of, header_of}
 use Rattle.layout.specs.Columns.{word_of_slot, set_slot_words}
@@ -11,14 +9,14 @@ use Rattle.layout.specs.Blank.{blank}
 use Rattle.cells.specs.Slots.{held_slot, free_slot}
 use Rattle.cells.specs.Mirrors.{share_words}
 use Rattle.replies.specs.declared.Refusal.TheVariants as Why
-use Rattle.replies.specs.Answers.{refused, done}
+use Rattle.replies.specs.Answers.{refused, done, unfit}
 use Rattle.replies.specs.Outcomes.{Outcome, leaves, on_header, on_slot}
+use Rattle.layout.specs.declared.Misfit.{Misfit}
 
 -- FORMAT. "Format tests in the order 1, 2, 3."
-unfoldable pub format_in : List ℕ → Shaped → Outcome
-format_in a (Fits z) = cond (leb (total z) (length a)) (leaves (done 0 0) (blank z a)) (leaves (refused Why.SliceTooShort) a)
-format_in a BadDegree = leaves (refused Why.BadDegree) a
-format_in a BadSizes = leaves (refused Why.BadSizes) a
+unfoldable pub format_in : List ℕ → Result Shape Misfit → Outcome
+format_in a (Ok z) = cond (leb (total z) (length a)) (leaves (done 0 0) (blank z a)) (leaves (refused Why.SliceTooShort) a)
+format_in a (Err why) = leaves (refused (unfit why)) a
 
 abbrev pub format_of : List ℕ → ℕ → ℕ → ℕ → ℕ → Outcome
 format_of a degree branches entries editions = format_in a (shape_of degree branches entries editions)

@@ -3,17 +3,17 @@
 ghost use Rattle.std.specs.Prelude.{◌≤◌};
 
 use crate::free_cells;
-use shelf::{Dropped, InUse};
+use shelf::{CellCounts, Refusal};
 use shown::{answer, lent};
 use std::io;
 
 // The words of the largest arena, and the slots of each.
-const WORDS: usize = 997;
+pub const WORDS: usize = 997;
 
 const SLOTS: u64 = 6;
 
 // The cells of an arena, how many editions are held in it, and in how many orders these can be dropped.
-#[derive(Clone, Copy)]
+#[derive(Clone, Copy, Debug)]
 pub struct Set {
     pub branches: u64,
     pub entries: u64,
@@ -21,31 +21,21 @@ pub struct Set {
     pub orders: u64,
 }
 
-// Branch cells and entry cells.
-#[derive(Clone, Copy)]
-struct Cells {
-    branches: u64,
-    entries: u64,
-}
-
-fn in_use(a: &[u64]) -> Cells {
-    match shelf::in_use(a) {
-        InUse::Cells { branches, entries } => Cells { branches, entries },
-        InUse::Refused(_) => Cells {
-            branches: 0,
-            entries: 0,
-        },
-    }
+fn in_use(a: &[u64]) -> CellCounts {
+    shelf::in_use(a).unwrap_or(CellCounts {
+        branches: 0,
+        entries: 0,
+    })
 }
 
 // Whether a drop answers what the cells in use fell by.
-fn is_fall(was: Cells, now: Cells, answer: Dropped) -> bool {
+fn is_fall(was: CellCounts, now: CellCounts, answer: Result<CellCounts, Refusal>) -> bool {
     match answer {
-        Dropped::Freed { branches, entries } => {
+        Ok(CellCounts { branches, entries }) => {
             was.branches == std::num::wrapping_add_u64(now.branches, branches)
                 && was.entries == std::num::wrapping_add_u64(now.entries, entries)
         }
-        Dropped::Refused(_) => false,
+        Err(_) => false,
     }
 }
 
@@ -64,10 +54,8 @@ fn is_held(a: &[u64], edition: u64) -> bool
 // How many editions are held.
 fn held(a: &[u64]) -> u64 {
     let mut n = 0;
-    let mut edition = 0;
-    while edition < SLOTS {
+    for edition in 0..SLOTS {
         n = count_other(n, !is_held(a, edition));
-        edition += 1;
     }
     n
 }
@@ -77,15 +65,13 @@ fn held_behind(a: &[u64], k: u64) -> u64
     ensures { result ≤ 6 }
 {
     let mut passed = 0;
-    let mut edition = 0;
-    while edition < SLOTS {
+    for edition in 0..SLOTS {
         if is_held(a, edition) {
             if passed == k {
                 return edition;
             }
             passed = answer::count(passed);
         }
-        edition += 1;
     }
     SLOTS
 }
@@ -102,12 +88,10 @@ fn is_listed_same(a: &[u64], before: &[u64], edition: u64) -> bool {
 // How many of the editions that are held are listed otherwise than before.
 fn listed_otherwise(a: &[u64], before: &[u64]) -> u64 {
     let mut n = 0;
-    let mut edition = 0;
-    while edition < SLOTS {
+    for edition in 0..SLOTS {
         if is_held(a, edition) {
             n = count_other(n, is_listed_same(a, before, edition));
         }
-        edition += 1;
     }
     n
 }
@@ -140,15 +124,14 @@ fn drop_all(
     editions: u64,
     order: u64,
 ) -> io::Result<u64> {
-    let mut other = 0;
+    let mut other = 0u64;
     let mut rest = order;
-    let mut left = editions;
-    while 0 < left {
-        let edition = held_behind(a, rest % left);
-        rest = rest / left;
-        left -= 1;
-        other = std::num::wrapping_add_u64(other, let_go(rt, a, before, edition, left)?);
-        if 0 < left {
+    for dropped in 0..editions {
+        let held = editions - dropped;
+        let edition = held_behind(a, rest % held);
+        rest /= held;
+        other = other.wrapping_add(let_go(rt, a, before, edition, held - 1)?);
+        if 1 < held {
             print::say(rt, b";")?;
         }
     }
@@ -166,11 +149,9 @@ fn in_order(rt: &impl Print, before: &[u64], set: Set, order: u64) -> io::Result
 
 // The editions of an arena in every order.
 pub fn order(rt: &impl Print, before: &[u64], set: Set) -> io::Result<()> {
-    let mut other = 0;
-    let mut order = 0;
-    while order < set.orders {
-        other = std::num::wrapping_add_u64(other, in_order(rt, before, set, order)?);
-        order += 1;
+    let mut other = 0u64;
+    for order in 0..set.orders {
+        other = other.wrapping_add(in_order(rt, before, set, order)?);
     }
     print::decimal(rt, b"    ", set.orders)?;
     print::decimal(

@@ -9,14 +9,7 @@ const MOST: u64 = 49;
 
 // Whether the words from a place on and before another are 0.
 fn is_zero(a: &[u64], from: usize, end: usize) -> bool {
-    let mut i = from;
-    while i < end {
-        if lent::word(a, i) != 0 {
-            return false;
-        }
-        i += 1;
-    }
-    true
+    (from..end).all(|i| lent::word(a, i) == 0)
 }
 
 // A free cell has the next one in its second word, and in all others 0.
@@ -26,56 +19,73 @@ fn is_free(a: &[u64], at: usize, width: usize) -> bool
     lent::word(a, at) == 0 && is_zero(a, at + 2, at + width)
 }
 
-// How many words a cell has; kind 0 are the branch cells, kind 1 the entry cells.
-fn width(kind: u64) -> usize
-    ensures { result ≤ 19 }
-{
-    if kind == 0 { 19 } else { 6 }
+#[derive(Clone, Copy, Debug, PartialEq, Eq)]
+enum Kind {
+    Branch,
+    Entry,
+}
+
+impl Kind {
+    // What a reference names: a branch cell by an even number, an entry cell by an odd one.
+    fn of(r: u64) -> Self {
+        if r % 2 == 0 {
+            Kind::Branch
+        } else {
+            Kind::Entry
+        }
+    }
+
+    // How many words a cell has.
+    fn width(self) -> usize
+        ensures { result ≤ 19 }
+    {
+        match self {
+            Kind::Branch => 19,
+            Kind::Entry => 6,
+        }
+    }
 }
 
 // The first word of a cell.
-fn place(branches: u64, kind: u64, cell: u64) -> usize
+fn place(branches: u64, kind: Kind, cell: u64) -> usize
     requires { (branches ≤ 49) × (cell < 49) }
     ensures { result ≤ 4000 }
 {
-    if kind == 0 {
-        30 + 19 * cell as usize
-    } else {
-        30 + 19 * branches as usize + 6 * cell as usize
+    match kind {
+        Kind::Branch => 30 + 19 * cell as usize,
+        Kind::Entry => 30 + 19 * branches as usize + 6 * cell as usize,
     }
 }
 
-// The reference behind a free cell on its chain; and 1, which names no cell, where there is no such cell or it is not free.
-fn behind(a: &[u64], branches: u64, kind: u64, r: u64) -> u64
+// The reference behind a free cell on its chain; none where there is no such cell or it is not free.
+fn behind(a: &[u64], branches: u64, kind: Kind, r: u64) -> Option<u64>
     requires { branches ≤ 49 }
 {
-    if r < 2 {
-        return 1;
-    }
-    if r % 2 != kind {
-        return 1;
+    if r < 2 || Kind::of(r) != kind {
+        return None;
     }
     let cell = r / 2 - 1;
     if MOST <= cell {
-        return 1;
+        return None;
     }
     let at = place(branches, kind, cell);
-    if is_free(a, at, width(kind)) {
-        lent::word(a, at + 1)
+    if is_free(a, at, kind.width()) {
+        Some(lent::word(a, at + 1))
     } else {
-        1
+        None
     }
 }
 
 // Whether the free chain that begins with a reference ends behind so many cells. None stands on it twice, or it had no end.
-fn is_chain(a: &[u64], branches: u64, kind: u64, first: u64, cells: u64) -> bool
+fn is_chain(a: &[u64], branches: u64, kind: Kind, first: u64, cells: u64) -> bool
     requires { branches ≤ 49 }
 {
     let mut r = first;
-    let mut n = 0;
-    while n < cells {
-        r = behind(a, branches, kind, r);
-        n += 1;
+    for _ in 0..cells {
+        let Some(next) = behind(a, branches, kind, r) else {
+            return false;
+        };
+        r = next;
     }
     r == 0
 }
@@ -86,6 +96,6 @@ pub fn is_all(a: &[u64], branches: u64, entries: u64) -> bool {
         return false;
     }
     is_zero(a, 10, 30)
-        && is_chain(a, branches, 0, lent::word(a, 8), branches)
-        && is_chain(a, branches, 1, lent::word(a, 9), entries)
+        && is_chain(a, branches, Kind::Branch, lent::word(a, 8), branches)
+        && is_chain(a, branches, Kind::Entry, lent::word(a, 9), entries)
 }

@@ -20,15 +20,10 @@ use Rattle.layout.proofs.ColumnLaws.{has_low}
 use Rattle.arena.specs.Sound.{Sound}
 use Rattle.arena.specs.Holds.{Holds}
 use Rattle.arena.proofs.Unique.{Edition-one}
-use Rattle.cells.specs.declared.Slot.TheVariants.{At}
 use Rattle.cells.specs.Frame.{Kept}
 use Rattle.cells.proofs.KeptLaws.{Kept-Header}
 use Rattle.chains.specs.Chains.{an_entry}
 use Rattle.replies.specs.declared.Refusal.{Refusal}
-use Rattle.replies.specs.declared.Updated.{Updated}
-use Rattle.replies.specs.declared.Updated.TheVariants as W
-use Rattle.replies.specs.declared.Dropped.{Dropped}
-use Rattle.replies.specs.declared.Dropped.TheVariants as G
 use Rattle.replies.specs.Answers as A
 use Rattle.replies.specs.Outcomes.{Outcome}
 use Rattle.replies.proofs.Tables.{HeaderNumbered, Held, number}
@@ -39,10 +34,15 @@ use Rattle.settled.specs.Alike.{Open, first_free, next_free, Alike}
 use Rattle.settled.specs.Cost.{Beside}
 use Rattle.promises.specs.Told.{UpdateTold, InsertTold, RemoveTold, DropTold, Agree}
 use Rattle.promises.proofs.BesideLaws.{update_Beside, drop_Beside}
-use Rattle.promises.proofs.AnswerLaws.{refused_some, refusal_once}
+use Rattle.replies.proofs.AnswerLaws.{refusal_once}
+use Rattle.promises.proofs.AnswerLaws.{refused_some}
 use Rattle.promises.proofs.StepLaws.{Nameless, insert_Nameless, remove_Nameless}
 use Rattle.settled.proofs.SettleLaws.{settled}
 use Rattle.settled.proofs.WordLaws.{alike_refl}
+use Rattle.std.specs.Prelude.{Some, Result, Ok, Err}
+use Rattle.replies.specs.declared.Updated.{Updated}
+use Rattle.replies.specs.Answers.{took, cell_counts}
+use Rattle.replies.specs.declared.CellCounts.{CellCounts}
 
 -- ONE ANSWER: one table gives one number
 one_number : {a : List ℕ} {When : Shape → ℕ → Type 0} {o p : Outcome} (z : Shape) → Header a z → HeaderNumbered a a When o
@@ -74,29 +74,35 @@ fewer_more {z} {b = b} B B' i m F = B'.others i m (λ q. B.away m (subst (λ (j 
 -- AN UPDATE
 module _ (a : List ℕ) (S : Sound a) (z : Shape) (H : Header a z) (e : ℕ) (m : Map ℕ) (holds : Held z a e → Holds z a e m)
     (Lacks : Shape → Type 0) (takes : Shape → Taken) (step : Shape → Step) (same : Nameless (step z)) where
-  abbrev Told : Updated → List ℕ → Type 0
+  abbrev Told : Result Updated Refusal → List ℕ → Type 0
   Told = UpdateTold a e Lacks takes step
 
-  new_edition : (s x y : ℕ) (b : List ℕ) → Told (W.Edition s x y) b → NewEdition z a b (step z) m s x y
+  new_edition : (s x y : ℕ) (b : List ℕ) → Told (took s x y) b → NewEdition z a b (step z) m s x y
   new_edition s x y b T = T.means.new S z H m (holds ((T.number.exactly z H 0).0 refl).0.0) s x y refl
 
-  one_answer : (r r' : Updated) (b b' : List ℕ) → Told r b → Told r' b' → r ≡ r'
-  one_answer (W.Edition s x y) (W.Edition s' x' y') b b' T T' =
-      let p : At s ≡ At s' = sym (T.means.lowest z H s x y refl) ∙ T'.means.lowest z H s' x' y' refl in
+  one_answer : (r r' : Result Updated Refusal) (b b' : List ℕ) → Told r b → Told r' b' → r ≡ r'
+  one_answer (Ok u) (Ok u') b b' T T' =
+      let s = u.edition in
+      let x = u.branches in
+      let y = u.entries in
+      let s' = u'.edition in
+      let x' = u'.branches in
+      let y' = u'.entries in
+      let p : Some s ≡ Some s' = sym (T.means.lowest z H s x y refl) ∙ T'.means.lowest z H s' x' y' refl in
       let q : s ≡ s' = cc in
       let N = new_edition s x y b T in
       let N' = new_edition s' x' y' b' T' in
       let c : ◌≡◌ {A = Taken} (record { branches = x; entries = y }) (record { branches = x'; entries = y' })
       = sym N.counts ∙ same.takes_same N.branch_names N.entry_names N'.branch_names N'.entry_names m ∙ N'.counts in
-      λ i. W.Edition (q i) (c i).branches (c i).entries
-  one_answer (W.Edition s x y) (W.Refused why) b b' T T' = absurd (refused_some why (one_number z H T'.number T.number))
-  one_answer (W.Refused why) (W.Edition s x y) b b' T T' = absurd (refused_some why (one_number z H T.number T'.number))
-  one_answer (W.Refused why) (W.Refused why') b b' T T' = ap W.Refused (refusal_once why why' (one_number z H T.number T'.number))
+      λ i. took (q i) (c i).branches (c i).entries
+  one_answer (Ok u) (Err why) b b' T T' = absurd (refused_some why (one_number z H T'.number T.number))
+  one_answer (Err why) (Ok u) b b' T T' = absurd (refused_some why (one_number z H T.number T'.number))
+  one_answer (Err why) (Err why') b b' T T' = ap Err (refusal_once why why' (one_number z H T.number T'.number))
 
-  left : (r : Updated) (b : List ℕ) → Told r b → (why : Refusal) → r ≡ W.Refused why → b ≡ a
-  left r b T why q = (T.number.refusal (λ n. refused_some why (sym (ap (λ (u : Updated). (A.updated u).number) q) ∙ n))).0
+  left : (r : Result Updated Refusal) (b : List ℕ) → Told r b → (why : Refusal) → r ≡ Err why → b ≡ a
+  left r b T why q = (T.number.refusal (λ n. refused_some why (sym (ap (λ (u : Result Updated Refusal). (A.update_answer u).number) q) ∙ n))).0
 
-  module _ (r r' : Updated) (b b' : List ℕ) (T : Told r b) (T' : Told r' b') where
+  module _ (r r' : Result Updated Refusal) (b b' : List ℕ) (T : Told r b) (T' : Told r' b') where
     pub update_agrees : Agree z a (step z) m r b r' b'
     unfolding rename_updated
     update_agrees =
@@ -128,12 +134,12 @@ module _ (a : List ℕ) (S : Sound a) (z : Shape) (H : Header a z) (e : ℕ) (m 
         }
 
 module _ (a : List ℕ) (S : Sound a) (z : Shape) (H : Header a z) (e : ℕ) (m : Map ℕ) (holds : Held z a e → Holds z a e m) where
-  pub insert_agrees : (h k v : ℕ) (change : Bool) (r r' : Updated) (b b' : List ℕ) → InsertTold a e h k v change m r b
+  pub insert_agrees : (h k v : ℕ) (change : Bool) (r r' : Result Updated Refusal) (b b' : List ℕ) → InsertTold a e h k v change m r b
       → InsertTold a e h k v change m r' b' → Agree z a (insert_step (an_entry h k v) z) m r b r' b'
   insert_agrees h k v change =
       update_agrees a S z H e m holds _ _ _ (insert_Nameless (an_entry h k v) z (row_is_Right z H.allowed).some_depths)
 
-  pub remove_agrees : (h k : ℕ) (r r' : Updated) (b b' : List ℕ) → RemoveTold a e h k m r b → RemoveTold a e h k m r' b'
+  pub remove_agrees : (h k : ℕ) (r r' : Result Updated Refusal) (b b' : List ℕ) → RemoveTold a e h k m r b → RemoveTold a e h k m r' b'
       → Agree z a (remove_step h k z) m r b r' b'
   remove_agrees h k = update_agrees a S z H e m holds _ _ _ (remove_Nameless h k z)
 
@@ -149,8 +155,12 @@ Alike-used A k l =
     (A.same_words (10 + k) (λ o. ⊎_elim (λ w. omega arith) (λ w. omega arith) (Open-where o)))
 
 module _ (a : List ℕ) (S : Sound a) (z : Shape) (H : Header a z) (e : ℕ) where
-  pub drop_agrees : (r r' : Dropped) (b b' : List ℕ) → DropTold a e r b → DropTold a e r' b' → (r ≡ r') × Alike z b b'
-  drop_agrees (G.Freed x y) (G.Freed x' y') b b' T T' =
+  pub drop_agrees : (r r' : Result CellCounts Refusal) (b b' : List ℕ) → DropTold a e r b → DropTold a e r' b' → (r ≡ r') × Alike z b b'
+  drop_agrees (Ok n) (Ok n') b b' T T' =
+      let x = n.branches in
+      let y = n.entries in
+      let x' = n'.branches in
+      let y' = n'.entries in
       let D = T.means in
       let D' = T'.means in
       let B = drop_Beside a b S z H e _ D x y refl in
@@ -160,10 +170,10 @@ module _ (a : List ℕ) (S : Sound a) (z : Shape) (H : Header a z) (e : ℕ) whe
       let g' = D'.gone S z H x' y' refl in
       let p : x ≡ x' = omega (arith, g.branches_fall, g'.branches_fall, Alike-used like 0 (omega arith)) in
       let q : y ≡ y' = omega (arith, g.entries_fall, g'.entries_fall, Alike-used like 1 (omega arith)) in
-      (λ i. G.Freed (p i) (q i), like)
-  drop_agrees (G.Freed x y) (G.Refused why) b b' T T' = absurd (refused_some why (one_number z H T'.number T.number))
-  drop_agrees (G.Refused why) (G.Freed x y) b b' T T' = absurd (refused_some why (one_number z H T.number T'.number))
-  drop_agrees (G.Refused why) (G.Refused why') b b' T T' =
+      (λ i. cell_counts (p i) (q i), like)
+  drop_agrees (Ok n) (Err why) b b' T T' = absurd (refused_some why (one_number z H T'.number T.number))
+  drop_agrees (Err why) (Ok n) b b' T T' = absurd (refused_some why (one_number z H T.number T'.number))
+  drop_agrees (Err why) (Err why') b b' T T' =
       let p : b ≡ a = (T.number.refusal (refused_some why)).0 in
       let q : b' ≡ a = (T'.number.refusal (refused_some why')).0 in
-      (ap G.Refused (refusal_once why why' (one_number z H T.number T'.number)), rw (p, q) (alike_refl z a))
+      (ap Err (refusal_once why why' (one_number z H T.number T'.number)), rw (p, q) (alike_refl z a))

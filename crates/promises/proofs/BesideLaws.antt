@@ -14,14 +14,15 @@ use Rattle.arena.proofs.Equivalent.{held_slot_lem}
 use Rattle.arena.proofs.Shelved.{slots_in}
 use Rattle.arena.proofs.Unique.{Edition-one}
 use Rattle.cells.proofs.SlotLaws.{free_slot-Lowest}
-use Rattle.replies.specs.declared.Updated.{Updated}
-use Rattle.replies.specs.declared.Updated.TheVariants.{Edition}
-use Rattle.replies.specs.declared.Dropped.{Dropped}
-use Rattle.replies.specs.declared.Dropped.TheVariants.{Freed}
 use Rattle.replies.specs.Outcomes.{Outcome}
 use Rattle.grants.specs.Terms.{Step, Updates}
 use Rattle.drops.specs.Terms.{DropsTo}
 use Rattle.settled.specs.Cost.{Beside}
+use Rattle.std.specs.Prelude.{Result}
+use Rattle.replies.specs.declared.Refusal.{Refusal}
+use Rattle.replies.specs.declared.Updated.{Updated}
+use Rattle.replies.specs.Answers.{took, cell_counts}
+use Rattle.replies.specs.declared.CellCounts.{CellCounts}
 
 module _ (a b : List ℕ) (S : Sound a) (z : Shape) (H : Header a z) where
   -- a slot that was held as long as it is, and whose edition is kept, holds no other
@@ -31,8 +32,8 @@ module _ (a b : List ℕ) (S : Sound a) (z : Shape) (H : Header a z) where
       let W = held_slot_lem z (columns z a) i (sym same ∙ E.held) (slots_in a S z H i E.slot) in
       subst (λ (n : Map ℕ). Holds z a i n) (Edition-one z (columns z b) i W.map m (keeps W.map W.edition) E) W.edition
 
-  pub update_Beside : (e : ℕ) (step : Shape → Step) {o : Outcome} (r : Updated) → Updates a e step o r b
-      → (s x y : ℕ) → r ≡ Edition s x y → Beside z a b s
+  pub update_Beside : (e : ℕ) (step : Shape → Step) {o : Outcome} (r : Result Updated Refusal) → Updates a e step o r b
+      → (s x y : ℕ) → r ≡ took s x y → Beside z a b s
   update_Beside e step r U s x y q =
       record {
         away = λ m E. (free_slot-Lowest z a s (U.lowest z H s x y q)).not_held E.held;
@@ -40,7 +41,7 @@ module _ (a b : List ℕ) (S : Sound a) (z : Shape) (H : Header a z) where
         others = λ i m ne. held_before i (U.others S z H s x y q i 0 ne (omega arith)) (U.kept S z H i) m;
       }
 
-  pub drop_Beside : (e : ℕ) {o : Outcome} (r : Dropped) → DropsTo a e o r b → (x y : ℕ) → r ≡ Freed x y → Beside z b a e
+  pub drop_Beside : (e : ℕ) {o : Outcome} (r : Result CellCounts Refusal) → DropsTo a e o r b → (x y : ℕ) → r ≡ cell_counts x y → Beside z b a e
   drop_Beside e r D x y q =
       let G = D.gone S z H x y q in
       let away : (m : Map ℕ) → Holds z b e m → ⊥ = λ m E. omega (arith, E.held, G.empty.not_held) in

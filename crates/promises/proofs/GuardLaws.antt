@@ -15,12 +15,7 @@ use Rattle.arena.proofs.Equivalent.{held_slot_lem}
 use Rattle.arena.proofs.Shelved.{slots_in, held_Shelves}
 use Rattle.cells.proofs.KeptLaws.{Kept-Header}
 use Rattle.replies.specs.declared.Refusal.TheVariants as Why
-use Rattle.replies.specs.declared.Dropped.TheVariants as G
-use Rattle.replies.specs.declared.Counted.{Counted}
-use Rattle.replies.specs.declared.Counted.TheVariants as C
-use Rattle.replies.specs.declared.Found.{Found}
-use Rattle.replies.specs.declared.Found.TheVariants as D
-use Rattle.replies.specs.Answers.{Answer, answer, refused, found, counted}
+use Rattle.replies.specs.Answers.{Answer, answer, refused, number_answer, cell_counts}
 use Rattle.replies.specs.Outcomes.{Outcome, leaves}
 use Rattle.replies.proofs.AnswerLaws.{refused_not_done}
 use Rattle.replies.proofs.Tables.{Held, HeaderNumbered, by_Held}
@@ -30,7 +25,10 @@ use Rattle.promises.specs.History.{Call, drops, Meets, Calls, no_call, then, His
 use Rattle.promises.proofs.HistoryLaws.{Meets-Sound, Calls-Sound, History-Sound}
 use Rattle.promises.proofs.WriteLaws.{Writes, left, formatted, made, shared, updated, dropped, writes}
 use Rattle.promises.proofs.AnyLaws.{inside_by}
-use Rattle.promises.proofs.AnswerLaws.{found_once, counted_once}
+use Rattle.replies.proofs.AnswerLaws.{number_once}
+use Rattle.std.specs.Prelude.{Result, Ok, Err}
+use Rattle.replies.specs.declared.Refusal.{Refusal}
+use Rattle.replies.specs.declared.CellCounts.{CellCounts}
 
 written_stays : (e : ℕ) {a b : List ℕ} {c : Call} → Writes a b c → Sound a → (Ends e c → ⊥) → (z : Shape) → Header a z
     → (m : Map ℕ) → Holds z a e m → Holds z b e m
@@ -40,7 +38,7 @@ written_stays e (made r w) S goes z H m E = w.kept z H e m E
 written_stays e (shared i r w) S goes z H m E = w.kept z H e m E
 written_stays e (updated c i step o r w) S goes z H m E = w.kept S z H e m E
 written_stays e (dropped i x y w) S goes z H m E =
-    w.kept S z H e m (λ q. goes (subst (λ (j : ℕ). Ends e (drops j (G.Freed x y))) q (by_drop x y))) E
+    w.kept S z H e m (λ q. goes (subst (λ (j : ℕ). Ends e (drops j (cell_counts x y))) q (by_drop x y))) E
 
 -- a call that does not end edition e leaves in slot e the same named trie
 pub kept_by : (e : ℕ) (c : Call) (a b : List ℕ) → Sound a → Meets c a b → (Ends e c → ⊥) → (z : Shape) → Header a z
@@ -92,36 +90,36 @@ module _ {a b : List ℕ} {cs : List Call} (past : History a) (calls : Calls a c
         is = held_Shelves b (Calls-Sound calls S) z K e w.map (keeps w.map w.edition);
       }
 
-  get_again : (h k : ℕ) (p : Found) → (found p ≡ refused Why.NoSuchEdition → ⊥) → Gets a e h k p → (r : Found) → Gets b e h k r → r ≡ p
+  get_again : (h k : ℕ) (p : Result ℕ Refusal) → (number_answer p ≡ refused Why.NoSuchEdition → ⊥) → Gets a e h k p → (r : Result ℕ Refusal) → Gets b e h k r → r ≡ p
   get_again h k p other g r g' =
       let T = stayed (get_numbered a e h k) (λ z n. n) (λ q. other (g.result ∙ q)) in
-      found_once r p
+      number_once r p
       (g'.shown T.shape T.after T.map T.is.holds ∙ sym (g.shown T.shape T.before T.map T.was.holds))
 
   -- the guard: what edition e held is found in e with the same value
-  pub found_again : (h k v : ℕ) → Gets a e h k (D.Value v) → (r : Found) → Gets b e h k r → r ≡ D.Value v
-  found_again h k v = get_again h k (D.Value v) (λ q. refused_not_done Why.NoSuchEdition v 0 (sym q))
+  pub found_again : (h k v : ℕ) → Gets a e h k (Ok v) → (r : Result ℕ Refusal) → Gets b e h k r → r ≡ Ok v
+  found_again h k v = get_again h k (Ok v) (λ q. refused_not_done Why.NoSuchEdition v 0 (sym q))
 
-  pub Absent-again : (h k : ℕ) → Gets a e h k (D.Refused Why.Absent) → (r : Found) → Gets b e h k r → r ≡ D.Refused Why.Absent
-  Absent-again h k = get_again h k (D.Refused Why.Absent) (λ q. omega (arith, ap (λ (x : Answer). x.number) q))
+  pub Absent-again : (h k : ℕ) → Gets a e h k (Err Why.Absent) → (r : Result ℕ Refusal) → Gets b e h k r → r ≡ Err Why.Absent
+  Absent-again h k = get_again h k (Err Why.Absent) (λ q. omega (arith, ap (λ (x : Answer). x.number) q))
 
   -- and its listing is the same, from any place and into any output
-  pub listed_again : (place : ℕ) (out out' out₂ : List ℕ) (r r₂ : Counted) → Lists a e place out r out'
-      → (r ≡ C.Refused Why.NoSuchEdition → ⊥) → Lists b e place out r₂ out₂ → (r₂ ≡ r) × (out₂ ≡ out')
+  pub listed_again : (place : ℕ) (out out' out₂ : List ℕ) (r r₂ : Result ℕ Refusal) → Lists a e place out r out'
+      → (r ≡ Err Why.NoSuchEdition → ⊥) → Lists b e place out r₂ out₂ → (r₂ ≡ r) × (out₂ ≡ out')
   listed_again place out out' out₂ r r₂ l other l' =
       let T =
       stayed (list_numbered a e place out) (λ z n. n)
-      (λ q. other (counted_once r (C.Refused Why.NoSuchEdition) (ap (λ (o : Outcome). o.answer) l.outcome ∙ q))) in
-      let same : leaves (counted r₂) out₂ ≡ leaves (counted r) out'
+      (λ q. other (number_once r (Err Why.NoSuchEdition) (ap (λ (o : Outcome). o.answer) l.outcome ∙ q))) in
+      let same : leaves (number_answer r₂) out₂ ≡ leaves (number_answer r) out'
       = l'.shown T.shape T.after T.map T.is ∙ sym (l.shown T.shape T.before T.map T.was) in
-      (counted_once r₂ r (ap (λ (o : Outcome). o.answer) same), ap (λ (o : Outcome). o.words) same)
+      (number_once r₂ r (ap (λ (o : Outcome). o.answer) same), ap (λ (o : Outcome). o.words) same)
 
-  pub size_again : (n : ℕ) → Sizes a e (C.Entries n) → (r : Counted) → Sizes b e r → r ≡ C.Entries n
+  pub size_again : (n : ℕ) → Sizes a e (Ok n) → (r : Result ℕ Refusal) → Sizes b e r → r ≡ Ok n
   size_again n s r s' =
       let T = stayed (size_numbered a e) (λ z h. h) (λ q. refused_not_done Why.NoSuchEdition n 0 (sym (s.result ∙ q))) in
       s'.shown T.shape T.after T.map T.is.holds ∙ sym (s.shown T.shape T.before T.map T.was.holds)
 
   -- NO PRIVATE ELEMENT IS LOST: the guard for the elements of odd groups, under key rule 1
-  pub private_elements_stay : (group element : ℕ) → Odd group → (h v : ℕ) → Gets a e h (key1 group element) (D.Value v)
-      → (r : Found) → Gets b e h (key1 group element) r → r ≡ D.Value v
+  pub private_elements_stay : (group element : ℕ) → Odd group → (h v : ℕ) → Gets a e h (key1 group element) (Ok v)
+      → (r : Result ℕ Refusal) → Gets b e h (key1 group element) r → r ≡ Ok v
   private_elements_stay group element odd h v = found_again h (key1 group element) v

@@ -8,8 +8,6 @@ use lib.ListN.{length, get_or}
 use Rattle.layout.specs.declared.Shape.{Shape}
 use Rattle.layout.specs.Header.{Header}
 use Rattle.arena.specs.Sound.{Sound}
-use Rattle.replies.specs.declared.Checked.{Checked}
-use Rattle.replies.specs.declared.Checked.TheVariants as K
 use Rattle.tallies.specs.Tallies.{work_words}
 use Rattle.checks.specs.Terms.{Checks}
 use Rattle.checks.proofs.ExactLaws.{Sound-zero}
@@ -18,6 +16,8 @@ use Rattle.promises.specs.History.{Call, Meets, Calls, no_call, then, History}
 use Rattle.settled.proofs.CostLaws.{in_use}
 use Rattle.promises.proofs.AnswerLaws.{check_is}
 use Rattle.promises.proofs.WriteLaws.{Writes, left, formatted, made, shared, updated, dropped, writes}
+use Rattle.std.specs.Prelude.{Result, Ok}
+use Rattle.replies.specs.declared.Refusal.{Refusal}
 
 written_Sound : {a b : List ℕ} {c : Call} → Writes a b c → Sound a → Sound b
 written_Sound (left c e) S = subst (λ (w : List ℕ). Sound w) (sym e) S
@@ -65,6 +65,6 @@ History-in_use {b} past z h =
     (in_use b S z h 0 (omega arith), in_use b S z h 1 (omega arith))
 
 -- and a check of it, with work words enough, answers 0
-pub History-check : {b w w' : List ℕ} {r : Checked} → History b → Checks b w r w' → (z : Shape) → Header b z → work_words z ≤ length w
-    → r ≡ K.Sound
+pub History-check : {b w w' : List ℕ} {r : Result (Unit {0}) Refusal} → History b → Checks b w r w' → (z : Shape) → Header b z → work_words z ≤ length w
+    → r ≡ (Ok tt)
 History-check {r = r} past c z h l = check_is r (Sound-zero c z h l (History-Sound past))

@@ -12,15 +12,6 @@ use Rattle.layout.specs.Header.{Header}
 use Rattle.layout.specs.Columns.{columns}
 use Rattle.layout.proofs.HeaderLaws.{Header-once}
 use Rattle.tallies.specs.Tallies.{work_words, Works}
-use Rattle.replies.specs.declared.Formatted.{Formatted}
-use Rattle.replies.specs.declared.Made.{Made}
-use Rattle.replies.specs.declared.Updated.{Updated}
-use Rattle.replies.specs.declared.Dropped.{Dropped}
-use Rattle.replies.specs.declared.Counted.{Counted}
-use Rattle.replies.specs.declared.InUse.{InUse}
-use Rattle.replies.specs.declared.Found.{Found}
-use Rattle.replies.specs.declared.Compared.{Compared}
-use Rattle.replies.specs.declared.Checked.{Checked}
 use Rattle.replies.specs.Answers.{Answer}
 use Rattle.replies.specs.Outcomes.{Outcome, leaves}
 use Rattle.makes.specs.Terms.{Formats, MakesNew, Shares}
@@ -30,7 +21,11 @@ use Rattle.drops.specs.Terms.{Drops}
 use Rattle.looks.specs.Terms.{Sizes, Uses, Gets, Lists, Compares}
 use Rattle.checks.specs.Terms.{Checks, wrong_header, short_work, not_sound, is_sound}
 use Rattle.checks.proofs.ExactLaws.{left_branch, left_entry}
-use Rattle.promises.proofs.AnswerLaws as Known
+use Rattle.replies.proofs.AnswerLaws as Known
+use Rattle.std.specs.Prelude.{Result, Bool}
+use Rattle.replies.specs.declared.Refusal.{Refusal}
+use Rattle.replies.specs.declared.Updated.{Updated}
+use Rattle.replies.specs.declared.CellCounts.{CellCounts}
 
 -- one outcome is one answer and the same words
 module _ {A : Type 0} {f : A → Answer} (known : (r r' : A) → f r ≡ f r' → r ≡ r') {r r' : A} where
@@ -44,44 +39,44 @@ module _ {A : Type 0} {f : A → Answer} (known : (r r' : A) → f r ≡ f r' �
   )
 
 module _ {a b b' : List ℕ} where
-  pub format_once : {degree branches entries editions : ℕ} {r r' : Formatted} → Formats a degree branches entries editions r b
+  pub format_once : {degree branches entries editions : ℕ} {r r' : Result (Unit {0}) Refusal} → Formats a degree branches entries editions r b
       → Formats a degree branches entries editions r' b' → (r ≡ r') × (b ≡ b')
-  format_once c c' = outcome_once Known.formatted_once c.outcome c'.outcome
+  format_once c c' = outcome_once Known.unit_once c.outcome c'.outcome
 
-  pub new_once : {r r' : Made} → MakesNew a r b → MakesNew a r' b' → (r ≡ r') × (b ≡ b')
-  new_once c c' = outcome_once Known.made_once c.outcome c'.outcome
+  pub new_once : {r r' : Result ℕ Refusal} → MakesNew a r b → MakesNew a r' b' → (r ≡ r') × (b ≡ b')
+  new_once c c' = outcome_once Known.number_once c.outcome c'.outcome
 
-  pub share_once : {e : ℕ} {r r' : Made} → Shares a e r b → Shares a e r' b' → (r ≡ r') × (b ≡ b')
-  share_once c c' = outcome_once Known.made_once c.outcome c'.outcome
+  pub share_once : {e : ℕ} {r r' : Result ℕ Refusal} → Shares a e r b → Shares a e r' b' → (r ≡ r') × (b ≡ b')
+  share_once c c' = outcome_once Known.number_once c.outcome c'.outcome
 
-  pub insert_once : {e : ℕ} (h k v : ℕ) {r r' : Updated} → Inserts a e h k v r b → Inserts a e h k v r' b' → (r ≡ r') × (b ≡ b')
-  insert_once h k v c c' = outcome_once Known.updated_once c.outcome c'.outcome
+  pub insert_once : {e : ℕ} (h k v : ℕ) {r r' : Result Updated Refusal} → Inserts a e h k v r b → Inserts a e h k v r' b' → (r ≡ r') × (b ≡ b')
+  insert_once h k v c c' = outcome_once Known.update_once c.outcome c'.outcome
 
-  pub change_once : {e : ℕ} (h k v : ℕ) {r r' : Updated} → Changes a e h k v r b → Changes a e h k v r' b' → (r ≡ r') × (b ≡ b')
-  change_once h k v c c' = outcome_once Known.updated_once c.outcome c'.outcome
+  pub change_once : {e : ℕ} (h k v : ℕ) {r r' : Result Updated Refusal} → Changes a e h k v r b → Changes a e h k v r' b' → (r ≡ r') × (b ≡ b')
+  change_once h k v c c' = outcome_once Known.update_once c.outcome c'.outcome
 
-  pub remove_once : {e : ℕ} (h k : ℕ) {r r' : Updated} → Removes a e h k r b → Removes a e h k r' b' → (r ≡ r') × (b ≡ b')
-  remove_once h k c c' = outcome_once Known.updated_once c.outcome c'.outcome
+  pub remove_once : {e : ℕ} (h k : ℕ) {r r' : Result Updated Refusal} → Removes a e h k r b → Removes a e h k r' b' → (r ≡ r') × (b ≡ b')
+  remove_once h k c c' = outcome_once Known.update_once c.outcome c'.outcome
 
-  pub drop_once : {e : ℕ} {r r' : Dropped} → Drops a e r b → Drops a e r' b' → (r ≡ r') × (b ≡ b')
-  drop_once c c' = outcome_once Known.dropped_once c.outcome c'.outcome
+  pub drop_once : {e : ℕ} {r r' : Result CellCounts Refusal} → Drops a e r b → Drops a e r' b' → (r ≡ r') × (b ≡ b')
+  drop_once c c' = outcome_once Known.cells_once c.outcome c'.outcome
 
 module _ {a : List ℕ} where
-  pub size_once : {e : ℕ} {r r' : Counted} → Sizes a e r → Sizes a e r' → r ≡ r'
-  size_once c c' = answer_once Known.counted_once c.result c'.result
+  pub size_once : {e : ℕ} {r r' : Result ℕ Refusal} → Sizes a e r → Sizes a e r' → r ≡ r'
+  size_once c c' = answer_once Known.number_once c.result c'.result
 
-  pub in_use_once : {r r' : InUse} → Uses a r → Uses a r' → r ≡ r'
-  in_use_once c c' = answer_once Known.in_use_answer_once c.result c'.result
+  pub in_use_once : {r r' : Result CellCounts Refusal} → Uses a r → Uses a r' → r ≡ r'
+  in_use_once c c' = answer_once Known.cells_once c.result c'.result
 
-  pub get_once : {e h k : ℕ} {r r' : Found} → Gets a e h k r → Gets a e h k r' → r ≡ r'
-  get_once c c' = answer_once Known.found_once c.result c'.result
+  pub get_once : {e h k : ℕ} {r r' : Result ℕ Refusal} → Gets a e h k r → Gets a e h k r' → r ≡ r'
+  get_once c c' = answer_once Known.number_once c.result c'.result
 
-  pub list_once : {e place : ℕ} {out out' out₂ : List ℕ} {r r₂ : Counted} → Lists a e place out r out' → Lists a e place out r₂ out₂
+  pub list_once : {e place : ℕ} {out out' out₂ : List ℕ} {r r₂ : Result ℕ Refusal} → Lists a e place out r out' → Lists a e place out r₂ out₂
       → (r ≡ r₂) × (out' ≡ out₂)
-  list_once c c' = outcome_once Known.counted_once c.outcome c'.outcome
+  list_once c c' = outcome_once Known.number_once c.outcome c'.outcome
 
-  pub equal_once : {e f : ℕ} {r r' : Compared} → Compares a e f r → Compares a e f r' → r ≡ r'
-  equal_once c c' = answer_once Known.compared_once c.result c'.result
+  pub equal_once : {e f : ℕ} {r r' : Result Bool Refusal} → Compares a e f r → Compares a e f r' → r ≡ r'
+  equal_once c c' = answer_once Known.truth_once c.result c'.result
 
 -- the work words: each is a branch's, an entry's or as it was
 Works-once : {z : Shape} {f : ℕ → ℕ} {w w' w₂ : List ℕ} → Works z f w w' → Works z f w w₂ → w' ≡ w₂
@@ -105,7 +100,7 @@ module _ {a : List ℕ} {z y : Shape} (h : Header a z) (g : Header a y) where
   Works-same : (f : Shape → ℕ → ℕ) {w w' w₂ : List ℕ} → Works z (f z) w w' → Works y (f y) w w₂ → w' ≡ w₂
   Works-same f {w} {w'} k = Works-once (subst (λ (x : Shape). Works x (f x) w w') (Header-once a z y h g) k)
 
-pub check_once : {a w w' w₂ : List ℕ} {r r₂ : Checked} → Checks a w r w' → Checks a w r₂ w₂ → (r ≡ r₂) × (w' ≡ w₂)
+pub check_once : {a w w' w₂ : List ℕ} {r r₂ : Result (Unit {0}) Refusal} → Checks a w r w' → Checks a w r₂ w₂ → (r ≡ r₂) × (w' ≡ w₂)
 check_once (wrong_header n) (wrong_header m) = (refl, refl)
 check_once (wrong_header n) (short_work y g m) = absurd (n y g)
 check_once (wrong_header n) (not_sound y w₂ g m t q) = absurd (n y g)

@@ -9,24 +9,13 @@ use lib.ListN.{length}
 use Rattle.cases.proofs.Cases.{split}
 use Rattle.trie.specs.Entry.{Got, absent, got}
 use Rattle.layout.specs.declared.Shape.{Shape}
-use Rattle.layout.specs.declared.Shaped.{Shaped}
-use Rattle.layout.specs.declared.Shaped.TheVariants as Z
-use Rattle.layout.specs.declared.Heading.{Heading}
-use Rattle.layout.specs.declared.Heading.TheVariants.{Right, Wrong}
 use Rattle.layout.specs.Layout.{total}
 use Rattle.layout.specs.Header.{shape_of, header_of}
-use Rattle.cells.specs.declared.Slot.{Slot}
-use Rattle.cells.specs.declared.Slot.TheVariants.{At, NoneFree}
 use Rattle.cells.specs.Mirrors.{Wrote}
 use Rattle.cells.specs.Slots.{held_slot, free_slot}
 use Rattle.replies.specs.declared.Refusal.{Refusal}
 use Rattle.replies.specs.declared.Refusal.TheVariants as Why
-use Rattle.replies.specs.declared.Formatted.TheVariants as F
-use Rattle.replies.specs.declared.Made.TheVariants as M
-use Rattle.replies.specs.declared.Updated.TheVariants as W
-use Rattle.replies.specs.declared.Dropped.TheVariants as G
-use Rattle.replies.specs.declared.Found.TheVariants as D
-use Rattle.replies.specs.Answers.{Answer, refused, formatted, made, updated, dropped, found}
+use Rattle.replies.specs.Answers.{Answer, refused, unit_answer, number_answer, update_answer, cells_answer, took, cell_counts}
 use Rattle.replies.specs.Outcomes.{Outcome, leaves, on_header, on_slot, on_wrote}
 use Rattle.grants.specs.Rooms.{hold_to}
 use Rattle.grants.proofs.CaseLaws.{Update, update_of, either_way, by_root}
@@ -49,6 +38,11 @@ use Rattle.promises.specs.History.{History}
 use Rattle.promises.specs.Program.{Did, Program}
 use Rattle.promises.proofs.StoryLaws.{Has}
 use Rattle.promises.proofs.CheatLaws.{told_insert, story_past}
+use Rattle.std.specs.Prelude.{Option, Some, None, Result, Ok, Err}
+use Rattle.layout.specs.declared.Misfit.{Misfit}
+use Rattle.layout.specs.declared.Misfit.TheVariants.{BadDegree, BadSizes}
+use Rattle.replies.specs.declared.Updated.{Updated}
+use Rattle.replies.specs.declared.CellCounts.{CellCounts}
 
 -- WHAT HOLDS IN EVERY CASE HOLDS
 module _ {A : Type 0} (P : A → Type 0) {x : A} where
@@ -56,15 +50,15 @@ module _ {A : Type 0} (P : A → Type 0) {x : A} where
   by_test true p q = p
   by_test false p q = q
 
-  by_header : (y : Heading) {f : Shape → A} → P x → ((z : Shape) → P (f z)) → P (on_header y x f)
+  by_header : (y : Option Shape) {f : Shape → A} → P x → ((z : Shape) → P (f z)) → P (on_header y x f)
   unfolding on_header
-  by_header Wrong p q = p
-  by_header (Right z) p q = q z
+  by_header None p q = p
+  by_header (Some z) p q = q z
 
-by_slot : (P : Outcome → Type 0) (y : Slot) {x : Outcome} {f : ℕ → Outcome} → P x → ((s : ℕ) → P (f s)) → P (on_slot y x f)
+by_slot : (P : Outcome → Type 0) (y : Option ℕ) {x : Outcome} {f : ℕ → Outcome} → P x → ((s : ℕ) → P (f s)) → P (on_slot y x f)
 unfolding on_slot
-by_slot P NoneFree p q = p
-by_slot P (At s) p q = q s
+by_slot P None p q = p
+by_slot P (Some s) p q = q s
 
 by_wrote : (P : Outcome → Type 0) (w : Wrote) (why : Refusal) {f : ℕ → List ℕ → Outcome} → P (leaves (refused why) w.words)
     → ((at : ℕ) (b : List ℕ) → P (f at b)) → P (on_wrote w why f)
@@ -86,60 +80,60 @@ did o s law =
     record { answer = s.case; words = o.words; meets = law s.case o.words (λ i. leaves (s.is i) o.words) }
 
 -- EACH CALL
-format_Says : (a : List ℕ) (y : Shaped) → Says formatted (format_in a y)
+format_Says : (a : List ℕ) (y : Result Shape Misfit) → Says unit_answer (format_in a y)
 unfolding format_in
-format_Says a (Z.Fits z) = by_test (Says formatted) (leb (total z) (length a)) (says F.Done) (says (F.Refused Why.SliceTooShort))
-format_Says a Z.BadDegree = says (F.Refused Why.BadDegree)
-format_Says a Z.BadSizes = says (F.Refused Why.BadSizes)
+format_Says a (Ok z) = by_test (Says unit_answer) (leb (total z) (length a)) (says (Ok tt)) (says (Err Why.SliceTooShort))
+format_Says a (Err BadDegree) = says (Err Why.BadDegree)
+format_Says a (Err BadSizes) = says (Err Why.BadSizes)
 
-new_Says : (a : List ℕ) → Says made (new_edition_of a)
+new_Says : (a : List ℕ) → Says number_answer (new_edition_of a)
 unfolding new_edition_in
 new_Says a =
-    by_header (Says made) (header_of a) (says (M.Refused Why.Damaged))
-    (λ z. by_slot (Says made) (free_slot z a) (says (M.Refused Why.NoSlot)) (λ s. says (M.Edition s)))
+    by_header (Says number_answer) (header_of a) (says (Err Why.Damaged))
+    (λ z. by_slot (Says number_answer) (free_slot z a) (says (Err Why.NoSlot)) (λ s. says (Ok s)))
 
-update_Says : (a : List ℕ) (e : ℕ) (u : Shape → Update) → ((z : Shape) (s : ℕ) → Says updated ((u z).does s))
-    → Says updated (update_of a e u)
+update_Says : (a : List ℕ) (e : ℕ) (u : Shape → Update) → ((z : Shape) (s : ℕ) → Says update_answer ((u z).does s))
+    → Says update_answer (update_of a e u)
 update_Says a e u does =
-    by_header (Says updated) (header_of a) (says (W.Refused Why.Damaged))
-    (λ z. either_way z a e (u z) (Says updated) (λ why. says (W.Refused why)) (λ held there s free fit_0 fit_1. does z s))
+    by_header (Says update_answer) (header_of a) (says (Err Why.Damaged))
+    (λ z. either_way z a e (u z) (Says update_answer) (λ why. says (Err why)) (λ held there s free fit_0 fit_1. does z s))
 
-hold_Says : (z : Shape) (s size branches entries : ℕ) (w : Wrote) → Says updated (hold_to z s size branches entries w)
+hold_Says : (z : Shape) (s size branches entries : ℕ) (w : Wrote) → Says update_answer (hold_to z s size branches entries w)
 hold_Says z s size branches entries w =
-    by_root z s size branches entries w (Says updated) (says (W.Refused Why.NoBranchCells)) (says (W.Edition s branches entries))
+    by_root z s size branches entries w (Says update_answer) (says (Err Why.NoBranchCells)) (says (took s branches entries))
 
-write_Says : (z : Shape) (a : List ℕ) (h k v : ℕ) (p : Plan) (s : ℕ) → Says updated (write_to z a h k v p s)
+write_Says : (z : Shape) (a : List ℕ) (h k v : ℕ) (p : Plan) (s : ℕ) → Says update_answer (write_to z a h k v p s)
 unfolding write_to
-write_Says z a h k v p s = by_wrote (Says updated) _ Why.NoEntryCells (says (W.Refused Why.NoEntryCells)) (λ leaf b. hold_Says z s _ _ _ _)
+write_Says z a h k v p s = by_wrote (Says update_answer) _ Why.NoEntryCells (says (Err Why.NoEntryCells)) (λ leaf b. hold_Says z s _ _ _ _)
 
-chain_Says : (z : Shape) (h : ℕ) (p : Cut) (s : ℕ) (w : Wrote) → Says updated (chain_to z h p s w)
+chain_Says : (z : Shape) (h : ℕ) (p : Cut) (s : ℕ) (w : Wrote) → Says update_answer (chain_to z h p s w)
 unfolding chain_to
 chain_Says z h p s w =
-    by_test (Says updated) (lacks w.at p.before) (says (W.Refused Why.NoEntryCells)) (hold_Says z s _ _ _ _)
+    by_test (Says update_answer) (lacks w.at p.before) (says (Err Why.NoEntryCells)) (hold_Says z s _ _ _ _)
 
-cut_Says : (z : Shape) (a : List ℕ) (h : ℕ) (p : Cut) (s : ℕ) → Says updated (cut_to z a h p s)
+cut_Says : (z : Shape) (a : List ℕ) (h : ℕ) (p : Cut) (s : ℕ) → Says update_answer (cut_to z a h p s)
 unfolding cut_to
 cut_Says z a h p s =
-    by_test (Says updated) p.empty (says (W.Edition s p.branches p.before)) (chain_Says z h p s _)
+    by_test (Says update_answer) p.empty (says (took s p.branches p.before)) (chain_Says z h p s _)
 
-drop_Says : (a : List ℕ) (e : ℕ) → Says dropped (drop_of a e)
+drop_Says : (a : List ℕ) (e : ℕ) → Says cells_answer (drop_of a e)
 unfolding drop_in free_in
 drop_Says a e =
-    by_header (Says dropped) (header_of a) (says (G.Refused Why.Damaged))
-    (λ z. by_test (Says dropped) (held_slot z a e) (says (G.Freed _ _)) (says (G.Refused Why.NoSuchEdition)))
+    by_header (Says cells_answer) (header_of a) (says (Err Why.Damaged))
+    (λ z. by_test (Says cells_answer) (held_slot z a e) (says (cell_counts _ _)) (says (Err Why.NoSuchEdition)))
 
 -- a get leaves the words as they are; it answers what was found
-by_got : (y : Got) {x : Answer} {a : List ℕ} → ((g : Got) → y ≡ g → x ≡ value_found g) → Says found (leaves x a)
-by_got absent is = record { case = D.Refused Why.Absent; is = sym (is absent refl) }
-by_got (got v) is = record { case = D.Value v; is = sym (is (got v) refl) }
+by_got : (y : Got) {x : Answer} {a : List ℕ} → ((g : Got) → y ≡ g → x ≡ value_found g) → Says number_answer (leaves x a)
+by_got absent is = record { case = Err Why.Absent; is = sym (is absent refl) }
+by_got (got v) is = record { case = Ok v; is = sym (is (got v) refl) }
 
-get_Says : (a : List ℕ) (e h k : ℕ) → Says found (leaves (get_of a e h k) a)
+get_Says : (a : List ℕ) (e h k : ℕ) → Says number_answer (leaves (get_of a e h k) a)
 get_Says a e h k =
-    by_header (λ x. Says found (leaves x a)) (header_of a) (says (D.Refused Why.Damaged))
+    by_header (λ x. Says number_answer (leaves x a)) (header_of a) (says (Err Why.Damaged))
     (λ z.
     split (held_slot z a e)
     (λ held. by_got _ (λ g. get_by z a e h k (root_word z a e) g held refl))
-    (λ not. record { case = D.Refused Why.NoSuchEdition; is = sym (get_not_held z a e h k not) }))
+    (λ not. record { case = Err Why.NoSuchEdition; is = sym (get_not_held z a e h k not) }))
 
 -- what the calls' own definitions compute keeps the contracts
 pub a_program : Program

@@ -19,18 +19,12 @@ use Rattle.arena.specs.Sound.{Sound}
 use Rattle.arena.specs.Holds.{Keeps}
 use Rattle.arena.proofs.BlankArena.{blank-columns}
 use Rattle.cells.specs.Mirrors.{share_words}
-use Rattle.cells.specs.declared.Slot.TheVariants.{At, NoneFree}
 use Rattle.cells.specs.Slots.{free_slot, held_slot}
 use Rattle.cells.proofs.KeptLaws.{Kept-Header, Kept-Lent, share_Kept}
 use Rattle.cells.proofs.SlotLaws.{Lowest, free_slot-Lowest}
 use Rattle.cells.proofs.StepColumns.{share_none, share_full, share_columns}
 use Rattle.chains.specs.Chains.{an_entry}
 use Rattle.replies.specs.declared.Refusal.TheVariants as Why
-use Rattle.replies.specs.declared.Formatted.TheVariants as F
-use Rattle.replies.specs.declared.Made.TheVariants as M
-use Rattle.replies.specs.declared.Updated.{Updated}
-use Rattle.replies.specs.declared.Updated.TheVariants as W
-use Rattle.replies.specs.declared.Dropped.TheVariants as G
 use Rattle.replies.specs.Answers as A
 use Rattle.replies.specs.Outcomes.{Outcome, leaves}
 use Rattle.replies.proofs.AnswerLaws.{refused_not_done, done_value, header_Right}
@@ -57,9 +51,14 @@ use Rattle.promises.proofs.StepLaws.{Unnamed, insert_Unnamed, remove_Unnamed}
 use Rattle.promises.proofs.BesideLaws.{drop_Beside, held_before, update_Beside}
 use Rattle.promises.proofs.ToldLaws.{change_told, insert_told, remove_told}
 use Rattle.promises.proofs.DoneLaws.{Fits, map_of, update_Done}
+use Rattle.std.specs.Prelude.{Some, None, Result, Ok, Err}
+use Rattle.replies.specs.declared.Refusal.{Refusal}
+use Rattle.replies.specs.declared.Updated.{Updated}
+use Rattle.replies.specs.Answers.{took, cell_counts}
+use Rattle.replies.specs.declared.CellCounts.{CellCounts}
 
 -- FORMAT
-blank_used : {a b : List ℕ} (g n m s : ℕ) → Formats a g n m s F.Done b → (y : Shape) (k : ℕ) → (columns y b).used k ≡ 0
+blank_used : {a b : List ℕ} (g n m s : ℕ) → Formats a g n m s (Ok tt) b → (y : Shape) (k : ℕ) → (columns y b).used k ≡ 0
 blank_used {a} g n m s M y k =
     let (z, fits, long) = ((format_Numbered a g n m s).exactly 0).0 (sym (ap number M.outcome)) in
     let laid = ap (λ (o : Outcome). o.words) (M.outcome ∙ format_done a _ z fits long) in
@@ -113,8 +112,8 @@ module _ (a b : List ℕ) (S : Sound a) (z : Shape) (h : Header a z) where
       0 0 (record { branches_rise = used 0; entries_rise = used 1 })
 
   -- what is done in the lowest free slot, or refused
-  done_at : (to : ℕ → List ℕ) (o : Outcome) → (free_slot z a ≡ NoneFree → o ≡ leaves (A.refused Why.NoSlot) a)
-      → ((t : ℕ) → free_slot z a ≡ At t → o ≡ leaves (A.done t 0) (to t)) → (s : ℕ) → leaves (A.done s 0) b ≡ o
+  done_at : (to : ℕ → List ℕ) (o : Outcome) → (free_slot z a ≡ None → o ≡ leaves (A.refused Why.NoSlot) a)
+      → ((t : ℕ) → free_slot z a ≡ Some t → o ≡ leaves (A.done t 0) (to t)) → (s : ℕ) → leaves (A.done s 0) b ≡ o
       → Lowest z a s × (b ≡ to s)
   done_at to o none at s e =
       by_free z a
@@ -124,7 +123,7 @@ module _ (a b : List ℕ) (S : Sound a) (z : Shape) (h : Header a z) where
       let v = done_value s 0 t 0 (ap (λ (x : Outcome). x.answer) q) in
       (rw v (free_slot-Lowest z a t f), ap (λ (x : Outcome). x.words) q ∙ ap to (sym v)))
 
-  New-spends : (s : ℕ) → MakesNew a (M.Edition s) b → New z a b s 0 0
+  New-spends : (s : ℕ) → MakesNew a (Ok s) b → New z a b s 0 0
   unfolding new_to
   New-spends s N =
       let e = N.outcome ∙ header_Right (header_of a) _ (λ y. new_edition_in y a) z ((Header-says a z).1 h) in
@@ -132,7 +131,7 @@ module _ (a b : List ℕ) (S : Sound a) (z : Shape) (h : Header a z) where
       let same = share_none z a 0 (names_low z 0 (omega arith)) in
       put_spends s 0 0 low (to ∙ ap (λ (w : List ℕ). set_slot_words z w s 1 0 0) (sym same)) (N.sound S) N.kept
 
-  share_spends : (i s : ℕ) → Shares a i (M.Edition s) b → New z a b s 0 0
+  share_spends : (i s : ℕ) → Shares a i (Ok s) b → New z a b s 0 0
   unfolding share_to
   share_spends i s N =
       let e = N.outcome ∙ header_Right (header_of a) _ (λ y. share_in y a i) z ((Header-says a z).1 h) in
@@ -145,15 +144,18 @@ module _ (a b : List ℕ) (S : Sound a) (z : Shape) (h : Header a z) where
       absurd (refused_not_done Why.NoSuchEdition s 0 (sym (ap (λ (x : Outcome). x.answer) q))))
 
 -- AN UPDATE: what it spends, by its answer
-abbrev Spent : Shape → List ℕ → List ℕ → ℕ → Step → Updated → Type 0
-Spent z a b e step (W.Edition s x y) = Derived z a b e step s x y
-Spent z a b e step (W.Refused why) = b ≡ a
+abbrev Spent : Shape → List ℕ → List ℕ → ℕ → Step → Result Updated Refusal → Type 0
+Spent z a b e step (Ok u) = Derived z a b e step u.edition u.branches u.entries
+Spent z a b e step (Err why) = b ≡ a
 
 module _ (a b : List ℕ) (S : Sound a) (z : Shape) (h : Header a z) where
   module _ (e : ℕ) where
-    update_spends : {Lacks : Map ℕ → Shape → Type 0} {takes : Map ℕ → Shape → Taken} {step : Shape → Step} (r : Updated)
+    update_spends : {Lacks : Map ℕ → Shape → Type 0} {takes : Map ℕ → Shape → Taken} {step : Shape → Step} (r : Result Updated Refusal)
         → Unnamed (step z) → ((m : Map ℕ) → Fits a b S z h e m → UpdateTold a e (Lacks m) (takes m) step r b) → Spent z a b e (step z) r
-    update_spends {step = step} (W.Edition s x y) same told =
+    update_spends {step = step} (Ok u) same told =
+        let s = u.edition in
+        let x = u.branches in
+        let y = u.entries in
         let (m, fits) = map_of a b S z h e in
         let U = (told m fits).means in
         let N = (update_Done a b S z h e s x y told).new in
@@ -166,21 +168,21 @@ module _ (a b : List ℕ) (S : Sound a) (z : Shape) (h : Header a z) where
               let K = U.new S z h n E s x y refl in
               same g f K.branch_names K.entry_names n ∙ K.counts;
         }
-    update_spends (W.Refused why) same told =
+    update_spends (Err why) same told =
         let (m, fits) = map_of a b S z h e in
         refused_same (told m fits).number.refusal why refl
 
-    insert_spends : (j k v : ℕ) (r : Updated) → Inserts a e j k v r b → Spent z a b e (insert_step (an_entry j k v) z) r
+    insert_spends : (j k v : ℕ) (r : Result Updated Refusal) → Inserts a e j k v r b → Spent z a b e (insert_step (an_entry j k v) z) r
     insert_spends j k v r U = update_spends r (insert_Unnamed (an_entry j k v) z) (λ m fits. insert_told a S e m fits j k v r b U)
 
-    change_spends : (j k v : ℕ) (r : Updated) → Changes a e j k v r b → Spent z a b e (insert_step (an_entry j k v) z) r
+    change_spends : (j k v : ℕ) (r : Result Updated Refusal) → Changes a e j k v r b → Spent z a b e (insert_step (an_entry j k v) z) r
     change_spends j k v r U = update_spends r (insert_Unnamed (an_entry j k v) z) (λ m fits. change_told a S e m fits j k v r b U)
 
-    remove_spends : (j k : ℕ) (r : Updated) → Removes a e j k r b → Spent z a b e (remove_step j k z) r
+    remove_spends : (j k : ℕ) (r : Result Updated Refusal) → Removes a e j k r b → Spent z a b e (remove_step j k z) r
     remove_spends j k r U = update_spends r (remove_Unnamed j k z) (λ m fits. remove_told a S e m fits j k r b U)
 
     -- A DROP gives back what was the edition's own
-    drop_spends : (x y : ℕ) → Drops a e (G.Freed x y) b → Costs z a e x y × Rises z b a x y
+    drop_spends : (x y : ℕ) → Drops a e (cell_counts x y) b → Costs z a e x y × Rises z b a x y
     drop_spends x y D =
         let gone = D.gone S z h x y refl in
         let R : Rises z b a x y = record { branches_rise = gone.branches_fall; entries_rise = gone.entries_fall } in
@@ -189,20 +191,20 @@ module _ (a b : List ℕ) (S : Sound a) (z : Shape) (h : Header a z) where
 -- EVERY CALL
 pub spends : (c : Call) (a b : List ℕ) → Sound a → (z : Shape) → Header a z → Meets c a b → Spends z c a b
 unfolding Spends Meets
-spends (formats g n m s F.Done) a b S z h C = λ y j k. blank_used g n m s C y k
-spends (formats g n m s (F.Refused why)) a b S z h C = format_Refused why C
-spends (makes_new (M.Edition s)) a b S z h C = New-spends a b S z h s C
-spends (makes_new (M.Refused why)) a b S z h C = refused_same (new_numbered a).refusal why C.outcome
-spends (shares e (M.Edition s)) a b S z h C = share_spends a b S z h e s C
-spends (shares e (M.Refused why)) a b S z h C = refused_same (share_numbered a e).refusal why C.outcome
-spends (inserts e j k v (W.Edition s x y)) a b S z h C = insert_spends a b S z h e j k v (W.Edition s x y) C
-spends (inserts e j k v (W.Refused why)) a b S z h C = insert_spends a b S z h e j k v (W.Refused why) C
-spends (changes e j k v (W.Edition s x y)) a b S z h C = change_spends a b S z h e j k v (W.Edition s x y) C
-spends (changes e j k v (W.Refused why)) a b S z h C = change_spends a b S z h e j k v (W.Refused why) C
-spends (removes e j k (W.Edition s x y)) a b S z h C = remove_spends a b S z h e j k (W.Edition s x y) C
-spends (removes e j k (W.Refused why)) a b S z h C = remove_spends a b S z h e j k (W.Refused why) C
-spends (drops e (G.Freed x y)) a b S z h C = drop_spends a b S z h e x y C
-spends (drops e (G.Refused why)) a b S z h C = refused_same (drop_numbered a e).refusal why C.outcome
+spends (formats g n m s (Ok u)) a b S z h C = λ y j k. blank_used g n m s C y k
+spends (formats g n m s (Err why)) a b S z h C = format_Refused why C
+spends (makes_new (Ok s)) a b S z h C = New-spends a b S z h s C
+spends (makes_new (Err why)) a b S z h C = refused_same (new_numbered a).refusal why C.outcome
+spends (shares e (Ok s)) a b S z h C = share_spends a b S z h e s C
+spends (shares e (Err why)) a b S z h C = refused_same (share_numbered a e).refusal why C.outcome
+spends (inserts e j k v (Ok u)) a b S z h C = insert_spends a b S z h e j k v (Ok u) C
+spends (inserts e j k v (Err why)) a b S z h C = insert_spends a b S z h e j k v (Err why) C
+spends (changes e j k v (Ok u)) a b S z h C = change_spends a b S z h e j k v (Ok u) C
+spends (changes e j k v (Err why)) a b S z h C = change_spends a b S z h e j k v (Err why) C
+spends (removes e j k (Ok u)) a b S z h C = remove_spends a b S z h e j k (Ok u) C
+spends (removes e j k (Err why)) a b S z h C = remove_spends a b S z h e j k (Err why) C
+spends (drops e (Ok n)) a b S z h C = drop_spends a b S z h e n.branches n.entries C
+spends (drops e (Err why)) a b S z h C = refused_same (drop_numbered a e).refusal why C.outcome
 spends (sizes e r) a b S z h C = C.1
 spends (uses r) a b S z h C = C.1
 spends (gets e j k r) a b S z h C = C.1

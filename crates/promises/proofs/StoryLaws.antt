@@ -9,7 +9,6 @@ use lib.ListN.{length}
 use Rattle.counts.proofs.CountLaws.{upd_other}
 use Rattle.segments.specs.Segments.{table, find, row_of, segment}
 use Rattle.layout.specs.declared.Shape.{Shape}
-use Rattle.layout.specs.declared.Shaped.TheVariants.{Fits}
 use Rattle.layout.specs.Layout.{total, cells_of}
 use Rattle.layout.specs.Header.{Header, within, are_sizes_fit, shape, shape_in, shape_of, header_of}
 use Rattle.layout.specs.Columns.{State, word_of_slot, by_kind, columns, set_slot}
@@ -26,23 +25,13 @@ use Rattle.trie.proofs.CellLaws.{insert_entries_new}
 use Rattle.arena.specs.Sound.{Sound}
 use Rattle.arena.specs.Holds.{Holds}
 use Rattle.arena.proofs.BlankArena.{blank-columns}
-use Rattle.cells.specs.declared.Slot.TheVariants.{At}
 use Rattle.cells.specs.Slots.{free_slot}
 use Rattle.cells.proofs.KeptLaws.{Kept-Header, slots_kept}
 use Rattle.cells.proofs.SlotLaws.{free_start, free_next, free_here}
 use Rattle.chains.specs.Chains.{an_entry}
 use Rattle.grafts.proofs.CaseLaws.{is_there_lem}
 use Rattle.replies.specs.declared.Refusal.TheVariants as Why
-use Rattle.replies.specs.declared.Formatted.{Formatted}
-use Rattle.replies.specs.declared.Formatted.TheVariants as F
-use Rattle.replies.specs.declared.Made.{Made}
-use Rattle.replies.specs.declared.Made.TheVariants as M
-use Rattle.replies.specs.declared.Updated.{Updated}
-use Rattle.replies.specs.declared.Updated.TheVariants as W
-use Rattle.replies.specs.declared.Dropped.{Dropped}
-use Rattle.replies.specs.declared.Found.{Found}
-use Rattle.replies.specs.declared.Found.TheVariants as D
-use Rattle.replies.specs.Answers.{done, formatted, made}
+use Rattle.replies.specs.Answers.{done, unit_answer, number_answer, took}
 use Rattle.replies.specs.Outcomes.{Outcome, leaves}
 use Rattle.replies.proofs.AnswerLaws.{header_Right}
 use Rattle.replies.proofs.Tables.{AllHeld, Held, number}
@@ -59,9 +48,14 @@ use Rattle.drops.specs.Terms.{Drops}
 use Rattle.drops.proofs.NumberLaws.{drop_numbered}
 use Rattle.looks.specs.Calls.{value_found}
 use Rattle.looks.specs.Terms.{Gets}
-use Rattle.promises.proofs.AnswerLaws.{found_once, made_once, format_is, Refused-is, IsDone, IsFreed, drop_is}
+use Rattle.replies.proofs.AnswerLaws.{number_once}
+use Rattle.promises.proofs.AnswerLaws.{format_is, Refused-is, IsDone, IsFreed, drop_is}
 use Rattle.promises.proofs.ToldLaws.{insert_told}
 use Rattle.promises.proofs.RoomLaws.{used_or_free, insert_Rooms, remove_Rooms}
+use Rattle.std.specs.Prelude.{Some, Result, Ok, Err}
+use Rattle.replies.specs.declared.Refusal.{Refusal}
+use Rattle.replies.specs.declared.Updated.{Updated}
+use Rattle.replies.specs.declared.CellCounts.{CellCounts}
 
 -- THE WORDS AND THE SHAPE: degree 16, so 4 bits and 16 depths; 12 + 3·4 + 4·19 + 6·4 = 124
 abbrev pub lent : List ℕ
@@ -70,7 +64,7 @@ lent = zeros 124
 abbrev pub ours : Shape
 ours = shape 16 4 16 4 4 4
 
-fits : shape_of 16 4 4 4 ≡ Fits ours
+fits : shape_of 16 4 4 4 ≡ Ok ours
 unfolding shape_of shape_in row_of find table are_sizes_fit within
 fits = refl
 
@@ -84,12 +78,12 @@ pub record Fresh (a : List ℕ) : Type 0 where
   pub unheld : (i : ℕ) → word_of_slot ours a i 0 ≡ 0
   pub unused : (k : ℕ) → by_kind a 10 k ≡ 0
 
-pub format_must : {r : Formatted} {b : List ℕ} → Formats lent 16 4 4 4 r b → (r ≡ F.Done) × Fresh b
+pub format_must : {r : Result (Unit {0}) Refusal} {b : List ℕ} → Formats lent 16 4 4 4 r b → (r ≡ (Ok tt)) × Fresh b
 format_must {r} {b} C =
-    let q : leaves (formatted r) b ≡ leaves (done 0 0) (blank ours lent) = C.outcome ∙ format_done lent _ ours fits long in
+    let q : leaves (unit_answer r) b ≡ leaves (done 0 0) (blank ours lent) = C.outcome ∙ format_done lent _ ours fits long in
     let e : b ≡ blank ours lent = ap (λ (o : Outcome). o.words) q in
     let w = (Fits-says 16 4 4 4 ours fits).allowed in
-    let d : r ≡ F.Done = format_is r (ap number q) in (
+    let d : r ≡ (Ok tt) = format_is r (ap number q) in (
       d,
       record {
         sound = C.sound d;
@@ -107,17 +101,17 @@ pub record Ready (a : List ℕ) : Type 0 where
   pub unheld : (i : ℕ) → 0 < i → word_of_slot ours a i 0 ≡ 0
   pub unused : (k : ℕ) → by_kind a 10 k ≡ 0
 
-pub new_must : {a b : List ℕ} {r : Made} → Fresh a → MakesNew a r b → (r ≡ M.Edition 0) × Ready b
+pub new_must : {a b : List ℕ} {r : Result ℕ Refusal} → Fresh a → MakesNew a r b → (r ≡ Ok 0) × Ready b
 unfolding new_to
 new_must {a} {b} {r} A C =
     let h = A.header in
-    let free : free_slot ours a ≡ At 0 = free_start ours a ∙ free_here ours a 0 4 (omega arith) (λ e. omega (arith, A.unheld 0)) in
-    let q : leaves (made r) b ≡ leaves (done 0 0) (new_to ours a 0)
+    let free : free_slot ours a ≡ Some 0 = free_start ours a ∙ free_here ours a 0 4 (omega arith) (λ e. omega (arith, A.unheld 0)) in
+    let q : leaves (number_answer r) b ≡ leaves (done 0 0) (new_to ours a 0)
     = C.outcome ∙ header_Right (header_of a) _ _ ours ((Header-says a ours).1 h) ∙ new_At ours a 0 free in
     let e : b ≡ new_to ours a 0 = ap (λ (o : Outcome). o.words) q in
     let after : columns ours b ≡ set_slot (columns ours a) 0 1 0 0
     = ap (columns ours) e ∙ slot_store ours a h.long h.allowed.wide 0 1 0 0 (omega arith) in
-    let d : r ≡ M.Edition 0 = made_once r (M.Edition 0) (ap (λ (o : Outcome). o.answer) q) in (
+    let d : r ≡ Ok 0 = number_once r (Ok 0) (ap (λ (o : Outcome). o.answer) q) in (
       d,
       record {
         sound = C.sound A.sound;
@@ -152,7 +146,7 @@ pub record Has (v : ℕ) (a : List ℕ) : Type 0 where
   pub holds : Holds ours a 1 (first v branch_names entry_names)
   pub unheld : word_of_slot ours a 2 0 ≡ 0
 
-module _ {a b : List ℕ} {r : Updated} (v : ℕ) (A : Ready a) (C : Inserts a 0 1 2 v r b) where
+module _ {a b : List ℕ} {r : Result Updated Refusal} (v : ℕ) (A : Ready a) (C : Inserts a 0 1 2 v r b) where
   insert_done : IsDone r
   insert_done =
       let h = A.header in
@@ -165,22 +159,22 @@ module _ {a b : List ℕ} {r : Updated} (v : ℕ) (A : Ready a) (C : Inserts a 0
       ) in
       (s, _, _, d)
 
-  slot_one : free_slot ours a ≡ At 1
+  slot_one : free_slot ours a ≡ Some 1
   slot_one =
       free_next ours a 0 (omega arith) A.holds.held (free_start ours a)
       ∙ free_here ours a 1 3 (omega arith) (λ e. omega (arith, A.unheld 1 (omega arith)))
 
-  insert_is : (s x y : ℕ) → r ≡ W.Edition s x y → NewEdition ours a b (insert_step (an_entry 1 2 v) ours) empty s x y
-      → (r ≡ W.Edition 1 1 1) × Has v b
+  insert_is : (s x y : ℕ) → r ≡ took s x y → NewEdition ours a b (insert_step (an_entry 1 2 v) ours) empty s x y
+      → (r ≡ took 1 1 1) × Has v b
   insert_is s x y d E =
       let h = A.header in
-      let at : At s ≡ At 1 = sym (C.lowest ours h s x y d) ∙ slot_one in
+      let at : Some s ≡ Some 1 = sym (C.lowest ours h s x y d) ∙ slot_one in
       let is : s ≡ 1 = cc in
       let xs : x ≡ 1 = sym (ap (λ (t : Taken). t.branches) E.counts) ∙ takes_branch h v E.branch_names E.entry_names in
       let ys : y ≡ 1 = sym (ap (λ (t : Taken). t.entries) E.counts) ∙ takes_entry v E.branch_names E.entry_names in
       let q : T.updated (first v E.branch_names E.entry_names) ≡ T.updated E.result = E.makes in
       let m : E.result ≡ first v E.branch_names E.entry_names = cc in (
-        d ∙ (λ i. W.Edition (is i) (xs i) (ys i)),
+        d ∙ (λ i. took (is i) (xs i) (ys i)),
         record {
           sound = C.sound A.sound;
           header = Kept-Header (C.inside ours h) h;
@@ -192,13 +186,13 @@ module _ {a b : List ℕ} {r : Updated} (v : ℕ) (A : Ready a) (C : Inserts a 0
         },
       )
 
-  pub insert_must : (r ≡ W.Edition 1 1 1) × Has v b
+  pub insert_must : (r ≡ took 1 1 1) × Has v b
   insert_must =
       let (s, x, y, d) = insert_done in
       insert_is s x y d (C.new A.sound ours A.header empty A.holds s x y d)
 
 -- and into an edition that is not there it cannot be
-pub not_held_must : {a b : List ℕ} {r : Updated} (v : ℕ) → Ready a → Inserts a 3 1 2 v r b → r ≡ W.Refused Why.NoSuchEdition
+pub not_held_must : {a b : List ℕ} {r : Result Updated Refusal} (v : ℕ) → Ready a → Inserts a 3 1 2 v r b → r ≡ Err Why.NoSuchEdition
 not_held_must {a} {b} {r} v A C =
     let out : Held ours a 3 → ⊥ = λ held. omega (arith, held.1, A.unheld 3 (omega arith)) in
     let none : (y : Shape) → Header a y → Held y a 3 → Holds y a 3 empty
@@ -217,12 +211,12 @@ unfolding T.remove T.insert T.chain T.child T.on_found T.find matches segment if
     T.remove_node T.list_remove_first T.copied T.settle T.is_empty T.take_out T.compress T.tidy left_takes branches_on stand_before before ahead
 first_takes v b f = refl
 
-pub get_must : {a : List ℕ} {r : Found} {v : ℕ} → Has v a → Gets a 1 1 2 r → r ≡ D.Value v
+pub get_must : {a : List ℕ} {r : Result ℕ Refusal} {v : ℕ} → Has v a → Gets a 1 1 2 r → r ≡ Ok v
 get_must {a} {r} {v} A C =
-    found_once r (D.Value v)
+    number_once r (Ok v)
     (C.shown ours A.header _ A.holds ∙ ap value_found (first_has v A.branch_names A.entry_names))
 
-pub remove_must : {a b : List ℕ} {r : Updated} {v : ℕ} → Has v a → Removes a 1 1 2 r b → IsDone r
+pub remove_must : {a b : List ℕ} {r : Result Updated Refusal} {v : ℕ} → Has v a → Removes a 1 1 2 r b → IsDone r
 unfolding cells_of
 remove_must {a} {b} {r} {v} A C =
     let there = is_there_lem v refl (first_has v A.branch_names A.entry_names) in
@@ -236,7 +230,7 @@ remove_must {a} {b} {r} {v} A C =
     ) in
     (s, _, _, d)
 
-pub drop_must : {a b : List ℕ} {r : Dropped} {v : ℕ} → Has v a → Drops a 1 r b → IsFreed r
+pub drop_must : {a b : List ℕ} {r : Result CellCounts Refusal} {v : ℕ} → Has v a → Drops a 1 r b → IsFreed r
 drop_must {a} {b} {r} A C =
     drop_is r
     (ap number C.outcome

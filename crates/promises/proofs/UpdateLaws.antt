@@ -17,7 +17,6 @@ use Rattle.arena.specs.Sound.{Sound}
 use Rattle.arena.proofs.Shelved.{held_Shelves, shelf_canonical}
 use Rattle.cells.proofs.KeptLaws.{Kept-Header}
 use Rattle.chains.specs.Chains.{an_entry}
-use Rattle.replies.specs.declared.Updated.TheVariants.{Edition}
 use Rattle.replies.specs.Outcomes.{Outcome}
 use Rattle.grants.specs.Terms.{Step, Updates}
 use Rattle.updates.specs.Terms.{insert_step, Inserts, Changes}
@@ -25,9 +24,11 @@ use Rattle.removes.specs.Terms.{Removes}
 use Rattle.looks.specs.Calls.{value_found}
 use Rattle.promises.specs.History.{History}
 use Rattle.promises.specs.Follows.{Follows}
-use Rattle.promises.proofs.AnswerLaws.{found_once}
+use Rattle.replies.proofs.AnswerLaws.{number_once}
 use Rattle.promises.proofs.HistoryLaws.{History-Sound}
 use Rattle.promises.proofs.DoneLaws.{Done, insert_Done, change_Done, remove_Done}
+use Rattle.replies.specs.Answers.{took}
+use Rattle.replies.specs.declared.Updated.{Updated}
 
 -- WHAT A MAP ANSWERS after an insert and after a remove, with any depths
 record Turned (seg : ℕ → ℕ → ℕ) (d h k : ℕ) (g : Got) (m m' : Map ℕ) : Type 0 where
@@ -65,7 +66,7 @@ map_lists seg (suc d) l m c =
     record { once = map_listing-Once seg d Word64 m c; says = map_listing-get seg d Word64 m c }
 
 -- so do get and list after an update
-module _ {a b : List ℕ} {e s x y : ℕ} {step : Shape → Step} {o : Outcome} (S : Sound a) (C : Updates a e step o (Edition s x y) b)
+module _ {a b : List ℕ} {e s x y : ℕ} {step : Shape → Step} {o : Outcome} (S : Sound a) (C : Updates a e step o (took s x y) b)
     (D : Done S.shape a b e (step S.shape) s x y) where
   follows : (h k : ℕ) (g : Got)
       → (0 < S.shape.depths → Turned (segment S.shape.bits) S.shape.depths h k g D.map D.new.result)
@@ -83,7 +84,7 @@ module _ {a b : List ℕ} {e s x y : ℕ} {step : Shape → Step} {o : Outcome} 
         same = λ r R. R.shown z after m D.new.holds ∙ ap value_found t.same;
         other =
             λ h' k' ne r r' R R'.
-            found_once r r'
+            number_once r r'
             (R.shown z S.header _ D.old ∙ ap value_found (t.other h' k' ne) ∙ sym (R'.shown z after m D.new.holds));
         listed = listing m;
         once = list.once;
@@ -94,19 +95,19 @@ module _ {a b : List ℕ} {e s x y : ℕ} {step : Shape → Step} {o : Outcome} 
 
 module _ {a b : List ℕ} (past : History a) (e h k : ℕ) where
   module _ (v s x y : ℕ) (fits : Word64 (an_entry h k v)) where
-    insert_Follows : {o : Outcome} (S : Sound a) → Updates a e (insert_step (an_entry h k v)) o (Edition s x y) b
+    insert_Follows : {o : Outcome} (S : Sound a) → Updates a e (insert_step (an_entry h k v)) o (took s x y) b
         → Done S.shape a b e (insert_step (an_entry h k v) S.shape) s x y → Follows a b e s h k (got v)
     insert_Follows S C U =
         follows S C U h k (got v)
         (λ l. insert_turns _ _ _ U.map U.new.result _ l (an_entry h k v) fits U.good U.new.makes)
 
-    pub every_insert : Inserts a e h k v (Edition s x y) b → Follows a b e s h k (got v)
+    pub every_insert : Inserts a e h k v (took s x y) b → Follows a b e s h k (got v)
     every_insert C = let S = History-Sound past in insert_Follows S C (insert_Done a b S S.shape S.header e h k v s x y C)
 
-    pub every_change : Changes a e h k v (Edition s x y) b → Follows a b e s h k (got v)
+    pub every_change : Changes a e h k v (took s x y) b → Follows a b e s h k (got v)
     every_change C = let S = History-Sound past in insert_Follows S C (change_Done a b S S.shape S.header e h k v s x y C)
 
-  pub every_removal : (s x y : ℕ) → Removes a e h k (Edition s x y) b → Follows a b e s h k absent
+  pub every_removal : (s x y : ℕ) → Removes a e h k (took s x y) b → Follows a b e s h k absent
   every_removal s x y C =
       let S = History-Sound past in
       let U = remove_Done a b S S.shape S.header e h k s x y C in

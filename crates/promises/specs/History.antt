@@ -1,39 +1,32 @@
 -- What may happen to an arena: a format that answered 0, then any public calls in any order, on any arguments and with any other
 -- words lent, refusals included. Of a call nothing is known but that its contract holds.
-use Rattle.std.specs.Prelude.{ℕ, ◌≡◌, List, [], ◌∷◌}
-use Rattle.replies.specs.declared.Formatted.{Formatted}
-use Rattle.replies.specs.declared.Formatted.TheVariants.{Done}
-use Rattle.replies.specs.declared.Made.{Made}
-use Rattle.replies.specs.declared.Updated.{Updated}
-use Rattle.replies.specs.declared.Dropped.{Dropped}
-use Rattle.replies.specs.declared.Dropped.TheVariants.{Freed}
-use Rattle.replies.specs.declared.Counted.{Counted}
-use Rattle.replies.specs.declared.InUse.{InUse}
-use Rattle.replies.specs.declared.Found.{Found}
-use Rattle.replies.specs.declared.Compared.{Compared}
-use Rattle.replies.specs.declared.Checked.{Checked}
+use Rattle.std.specs.Prelude.{ℕ, ◌≡◌, List, [], ◌∷◌, Result, Ok, Bool}
 use Rattle.makes.specs.Terms.{Formats, MakesNew, Shares}
 use Rattle.updates.specs.Terms.{Inserts, Changes}
 use Rattle.removes.specs.Terms.{Removes}
 use Rattle.drops.specs.Terms.{Drops}
 use Rattle.looks.specs.Terms.{Sizes, Uses, Gets, Lists, Compares}
 use Rattle.checks.specs.Terms.{Checks}
+use Rattle.replies.specs.declared.Refusal.{Refusal}
+use Rattle.replies.specs.declared.Updated.{Updated}
+use Rattle.replies.specs.Answers.{cell_counts}
+use Rattle.replies.specs.declared.CellCounts.{CellCounts}
 
 -- a public call: its arguments, then its answer; for list and check the other words lent, before and after
 pub data Call : Type 0 where
-  formats : (degree branches entries editions : ℕ) → Formatted → Call
-  makes_new : Made → Call
-  shares : (e : ℕ) → Made → Call
-  inserts : (e h k v : ℕ) → Updated → Call
-  changes : (e h k v : ℕ) → Updated → Call
-  removes : (e h k : ℕ) → Updated → Call
-  drops : (e : ℕ) → Dropped → Call
-  sizes : (e : ℕ) → Counted → Call
-  uses : InUse → Call
-  gets : (e h k : ℕ) → Found → Call
-  lists : (e place : ℕ) (out : List ℕ) → Counted → (out' : List ℕ) → Call
-  compares : (e f : ℕ) → Compared → Call
-  checks : (work : List ℕ) → Checked → (work' : List ℕ) → Call
+  formats : (degree branches entries editions : ℕ) → Result (Unit {0}) Refusal → Call
+  makes_new : Result ℕ Refusal → Call
+  shares : (e : ℕ) → Result ℕ Refusal → Call
+  inserts : (e h k v : ℕ) → Result Updated Refusal → Call
+  changes : (e h k v : ℕ) → Result Updated Refusal → Call
+  removes : (e h k : ℕ) → Result Updated Refusal → Call
+  drops : (e : ℕ) → Result CellCounts Refusal → Call
+  sizes : (e : ℕ) → Result ℕ Refusal → Call
+  uses : Result CellCounts Refusal → Call
+  gets : (e h k : ℕ) → Result ℕ Refusal → Call
+  lists : (e place : ℕ) (out : List ℕ) → Result ℕ Refusal → (out' : List ℕ) → Call
+  compares : (e f : ℕ) → Result Bool Refusal → Call
+  checks : (work : List ℕ) → Result (Unit {0}) Refusal → (work' : List ℕ) → Call
 
 -- the call met its contract, and the arena's words went from a to b; a call that reads is lent them shared, so they stay
 unfoldable pub Meets : Call → List ℕ → List ℕ → Type 0
@@ -64,14 +57,14 @@ pub record History (b : List ℕ) : Type 0 where
   pub entries : ℕ
   pub editions : ℕ
   pub formatted : List ℕ
-  pub format : Formats lent degree branches entries editions Done formatted
+  pub format : Formats lent degree branches entries editions (Ok tt) formatted
   pub calls : List Call
   pub made : Calls formatted calls b
 
 -- What ends edition e: a drop of it that is done, and a format that is done, which "so ends every edition".
 pub data Ends (e : ℕ) : Call → Type 0 where
-  by_format : (degree branches entries editions : ℕ) → Ends e (formats degree branches entries editions Done)
-  by_drop : (branches entries : ℕ) → Ends e (drops e (Freed branches entries))
+  by_format : (degree branches entries editions : ℕ) → Ends e (formats degree branches entries editions (Ok tt))
+  by_drop : (branches entries : ℕ) → Ends e (drops e (cell_counts branches entries))
 
 -- none of the calls ends edition e
 unfoldable pub Spared : ℕ → List Call → Type 0

@@ -27,7 +27,6 @@ use Rattle.arena.specs.Shows.{Shows, ShowsChain}
 use Rattle.lookup.specs.Lookup.{names_kind}
 use Rattle.lookup.proofs.FindLaws.{kind_is}
 use Rattle.cells.proofs.TakeLaws.{more_some}
-use Rattle.grafts.specs.declared.Onward.TheVariants.{Child}
 use Rattle.grafts.specs.Grafts.{onward_in, on_onward}
 use Rattle.grafts.proofs.SeenLaws.{Seen, Celled, branch_named, branch-Seen, onward_found}
 use Rattle.prunes.specs.declared.Left.{Left as Rest}
@@ -36,6 +35,7 @@ use Rattle.prunes.specs.Prunes.{left_of_chain, left_of_cut, left_of_settled, lef
 use Rattle.prunes.proofs.SingleLaws.{few_kids, lone_kids, only_is, few_put, lone_is, empty_is}
 use Rattle.prunes.proofs.SingleLeft.{single_kept}
 use Rattle.prunes.proofs.StepMeaning.{left_on}
+use Rattle.std.specs.Prelude.{Some as Just}
 
 -- what is left where a node is left, with so many branches on the path
 unfoldable pub left_of : ℕ → Node ℕ → Rest
@@ -137,7 +137,7 @@ module _ (z : Shape) (σ : State) (h l n t r : ℕ) where
   unfolding left_from
   left_entry e = rw e
 
-  left_found : names_kind z 1 r ≡ false → (c : ℕ) → onward_in z σ h t r ≡ Child c
+  left_found : names_kind z 1 r ≡ false → (c : ℕ) → onward_in z σ h t r ≡ Just c
       → left_from z σ h l (suc n) t r ≡ left_of_settled z σ h t r (left_from z σ h l n (suc t) c)
   unfolding left_from on_onward
   left_found e c o = rw (e, o)

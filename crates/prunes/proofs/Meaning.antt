@@ -28,7 +28,6 @@ use Rattle.arena.proofs.LocalLaws.{rehand}
 use Rattle.arena.proofs.Frames.{shown_live}
 use Rattle.lookup.specs.Lookup.{names_kind}
 use Rattle.cells.specs.Mirrors.{wrote}
-use Rattle.grafts.specs.declared.Onward.TheVariants.{Child}
 use Rattle.grafts.specs.Grafts.{onward_in, on_onward}
 use Rattle.grafts.proofs.Meaning.{Names, Grafted, leaf_Grafted, leaf_shown}
 use Rattle.grafts.proofs.SeenLaws.{Celled, words_Celled, branch_named, branch-Seen, Seen-kept, onward_found}
@@ -36,6 +35,7 @@ use Rattle.prunes.specs.Prunes.{below_settled, child_cut, is_emptied, prune_from
 use Rattle.prunes.proofs.LeftLaws.{leaf_named}
 use Rattle.prunes.proofs.SettledLaws.{settle_means, cut_means}
 use Rattle.prunes.proofs.StepMeaning.{left_on, settled_room, settled-Names}
+use Rattle.std.specs.Prelude.{Some}
 
 -- ONE STEP DOWN
 module _ (z : Shape) (h x n t r : ℕ) (a : List ℕ) where
@@ -43,12 +43,12 @@ module _ (z : Shape) (h x n t r : ℕ) (a : List ℕ) where
   unfolding prune_from
   prune_entry e = rw e
 
-  prune_cut : names_kind z 1 r ≡ false → (c : ℕ) → onward_in z (columns z a) h t r ≡ Child c → is_emptied z x n c ≡ true
+  prune_cut : names_kind z 1 r ≡ false → (c : ℕ) → onward_in z (columns z a) h t r ≡ Some c → is_emptied z x n c ≡ true
       → prune_from z h x (suc n) t r a ≡ child_cut z h t r a
   unfolding prune_from on_onward
   prune_cut e c o y = rw (e, o, y)
 
-  prune_settle : names_kind z 1 r ≡ false → (c : ℕ) → onward_in z (columns z a) h t r ≡ Child c → is_emptied z x n c ≡ false
+  prune_settle : names_kind z 1 r ≡ false → (c : ℕ) → onward_in z (columns z a) h t r ≡ Some c → is_emptied z x n c ≡ false
       → prune_from z h x (suc n) t r a ≡ below_settled z h t r (prune_from z h x n (suc t) c a)
   unfolding prune_from on_onward
   prune_settle e c o y = rw (e, o, y)

@@ -14,12 +14,12 @@ use Rattle.layout.specs.declared.Shape.{Shape}
 use Rattle.layout.specs.Columns.{State, word, columns}
 use Rattle.lookup.specs.Lookup.{names_kind}
 use Rattle.cells.specs.Mirrors.{Wrote, wrote, listed, one_more, share_words}
-use Rattle.grafts.specs.declared.Onward.TheVariants.{Child, Missing}
 use Rattle.grafts.specs.Grafts.{kid_bits, kid_row, onward_in, on_onward, IsRow, row_shared, branch_made, child_put}
 use Rattle.grafts.proofs.StepLaws.{share_same, branch_same}
 use Rattle.prunes.specs.declared.Left.{Left}
 use Rattle.prunes.specs.declared.Left.TheVariants.{Nothing, Single, More}
 use Rattle.prunes.specs.Prunes.{is_a_single, is_the_only, out_at, is_lone, place_at, left_of_chain, left_of_cut, left_of_settled, left_from, is_coming_up, child_settled, below_settled, cut_at, child_cut, is_emptied, prune_from}
+use Rattle.std.specs.Prelude.{Some, None}
 
 -- SINGLES
 module _ (z : Shape) (a : List ℕ) (r : ℕ) where
@@ -35,12 +35,6 @@ module _ (z : Shape) (σ : State) (r : ℕ) where
   pub only_by : (v : ℕ) → v ≡ kid_row z σ r 1 → eqb v 0 ≡ is_the_only z σ r
   unfolding is_the_only
   only_by v e = rw e
-
-  pub up_only : (x : ℕ) (b : Bool) → is_the_only z σ r ≡ true → b ≡ is_a_single z σ x → b ≡ is_coming_up z σ r x
-  up_only x b e eb = rw e eb
-
-  pub up_not : (x : ℕ) → is_the_only z σ r ≡ false → false ≡ is_coming_up z σ r x
-  up_not x e = rw e
 
 -- ROWS
 module _ (z : Shape) (σ : State) (r p y : ℕ) (ey : y ≡ out_at z σ r p 1) where
@@ -121,13 +115,13 @@ module _ (z : Shape) (σ : State) (h l t r : ℕ) where
   left_entry zero v e q = q
   left_entry (suc n) v e q = rw e q
 
-  pub left_Missing : (n : ℕ) → (n ≡ 0 → ⊥) → names_kind z 1 r ≡ false → onward_in z σ h t r ≡ Missing → More 0 ≡ left_from z σ h l n t r
+  pub left_Missing : (n : ℕ) → (n ≡ 0 → ⊥) → names_kind z 1 r ≡ false → onward_in z σ h t r ≡ None → More 0 ≡ left_from z σ h l n t r
   unfolding left_from on_onward
   left_Missing zero nz e o = absurd (nz refl)
   left_Missing (suc n) nz e o = rw (e, o)
 
   pub left_Child : (d n c : ℕ) (below v : Left) → (n ≡ 0 → ⊥) → n ≤ d → t ≡ d - n → names_kind z 1 r ≡ false
-      → onward_in z σ h t r ≡ Child c → below ≡ left_from z σ h l (n - 1) (d - (n - 1)) c → v ≡ left_of_settled z σ h t r below
+      → onward_in z σ h t r ≡ Some c → below ≡ left_from z σ h l (n - 1) (d - (n - 1)) c → v ≡ left_of_settled z σ h t r below
       → v ≡ left_from z σ h l n t r
   unfolding left_from on_onward
   left_Child d zero c below v nz le et e o eb ev = absurd (nz refl)
@@ -206,13 +200,13 @@ module _ (z : Shape) (h x t r : ℕ) (a : List ℕ) where
   prune_entry zero e = refl
   prune_entry (suc n) e = rw e
 
-  pub prune_Missing : (n : ℕ) → (n ≡ 0 → ⊥) → names_kind z 1 r ≡ false → onward_in z (columns z a) h t r ≡ Missing
+  pub prune_Missing : (n : ℕ) → (n ≡ 0 → ⊥) → names_kind z 1 r ≡ false → onward_in z (columns z a) h t r ≡ None
       → wrote 0 a ≡ prune_from z h x n t r a
   unfolding prune_from on_onward
   prune_Missing zero nz e o = absurd (nz refl)
   prune_Missing (suc n) nz e o = rw (e, o)
 
-  pub prune_cut : (n c : ℕ) (s : Wrote) → (n ≡ 0 → ⊥) → names_kind z 1 r ≡ false → onward_in z (columns z a) h t r ≡ Child c
+  pub prune_cut : (n c : ℕ) (s : Wrote) → (n ≡ 0 → ⊥) → names_kind z 1 r ≡ false → onward_in z (columns z a) h t r ≡ Some c
       → is_emptied z x (n - 1) c ≡ true → s ≡ child_cut z h t r a → s ≡ prune_from z h x n t r a
   unfolding prune_from on_onward
   prune_cut zero c s nz e o y q = absurd (nz refl)
@@ -220,7 +214,7 @@ module _ (z : Shape) (h x t r : ℕ) (a : List ℕ) where
       let m : suc n - 1 ≡ n = omega arith in rw (e, o, ap (λ (i : ℕ). is_emptied z x i c) (sym m) ∙ y) q
 
   pub prune_Child : (d n c below : ℕ) (w : List ℕ) (s : Wrote) → (n ≡ 0 → ⊥) → n ≤ d → t ≡ d - n → names_kind z 1 r ≡ false
-      → onward_in z (columns z a) h t r ≡ Child c → is_emptied z x (n - 1) c ≡ false
+      → onward_in z (columns z a) h t r ≡ Some c → is_emptied z x (n - 1) c ≡ false
       → wrote below w ≡ prune_from z h x (n - 1) (d - (n - 1)) c a → s ≡ below_settled z h t r (wrote below w)
       → s ≡ prune_from z h x n t r a
   unfolding prune_from on_onward

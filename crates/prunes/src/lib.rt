@@ -16,7 +16,7 @@ ghost use Rattle.grafts.specs.Grafts.{IsRow};
 ghost use Rattle.prunes.specs.Prunes.{is_a_single, is_the_only, out_at, is_lone, left_of_chain, left_of_cut, left_of_settled, left_from, place_at, is_coming_up, child_settled, below_settled, cut_at, child_cut, is_emptied, prune_from};
 
 use cells::shares;
-use grafts::{Onward, kids};
+use grafts::kids;
 use layout::{Shape, words};
 use lookup::links;
 
@@ -33,11 +33,7 @@ fn is_single(a: &[u64], z: Shape, r: u64) -> bool
     requires { Lent z a.now }
     ensures { result ≡ is_a_single z (columns z a.now) r }
 {
-    if links::is_entry(z, r) {
-        words::word(a, z, r, words::MARK) == 1
-    } else {
-        false
-    }
+    links::is_entry(z, r) && words::word(a, z, r, words::MARK) == 1
 }
 
 // Whether a branch has no more than one child.
@@ -61,15 +57,11 @@ fn out(a: &[u64], z: Shape, r: u64, at: u64, k: u64) -> u64
 }
 
 // Whether a single is all that is left of a branch once the child at a place is taken out.
-fn is_lone(a: &[u64], z: Shape, r: u64, at: u64) -> bool
+fn leaves_single(a: &[u64], z: Shape, r: u64, at: u64) -> bool
     requires { Lent z a.now }
     ensures { result ≡ is_lone z (columns z a.now) r at }
 {
-    if out(a, z, r, at, 1) == 0 {
-        is_single(a, z, out(a, z, r, at, 0))
-    } else {
-        false
-    }
+    out(a, z, r, at, 1) == 0 && is_single(a, z, out(a, z, r, at, 0))
 }
 
 // The place of the child at a hash's segment.
@@ -105,7 +97,7 @@ fn cut_left(a: &[u64], z: Shape, hash: u64, depth: u64, r: u64) -> Left
     if out(a, z, r, at, 0) == 0 {
         return Left::Nothing;
     }
-    if is_lone(a, z, r, at) {
+    if leaves_single(a, z, r, at) {
         return Left::Single;
     }
     Left::More(1)
@@ -143,11 +135,11 @@ pub fn left_of(a: &[u64], z: Shape, hash: u64, length: u64, left: u64, r: u64) -
     }
     let depth = z.depths - left;
     match grafts::follow(a, z, hash, depth, r) {
-        Onward::Child(child) => {
+        Some(child) => {
             let below = left_of(a, z, hash, length, left - 1, child);
             settled_left(a, z, hash, depth, r, below)
         }
-        Onward::Missing => Left::More(0),
+        None => Left::More(0),
     }
 }
 
@@ -156,11 +148,7 @@ fn comes_up(a: &[u64], z: Shape, r: u64, child: u64) -> bool
     requires { Lent z a.now }
     ensures { result ≡ is_coming_up z (columns z a.now) r child }
 {
-    if is_only(a, z, r) {
-        is_single(a, z, child)
-    } else {
-        false
-    }
+    is_only(a, z, r) && is_single(a, z, child)
 }
 
 // A branch with another child on the path: that child itself, where it is a single and the only one.
@@ -187,15 +175,12 @@ fn settle_below(a: &mut [u64], z: Shape, hash: u64, depth: u64, r: u64, below: u
     settle_child(a, z, hash, depth, r, below)
 }
 
-fn load(a: &[u64], z: Shape, r: u64, at: u64, row: &mut [u64])
-    requires lent { Lent z a.now }
-    requires row_len { length row.old ≡ 64 }
+fn load(a: &[u64], z: Shape, r: u64, at: u64, row: &mut [u64; 64])
+    requires { Lent z a.now }
     ensures { IsRow z.degree (out_at z (columns z a.now) r at) row.new }
 {
-    let mut k = 0;
-    while k < z.degree {
+    for k in 0..z.degree {
         row[k as usize] = out(a, z, r, at, k);
-        k += 1;
     }
 }
 
@@ -208,9 +193,10 @@ fn without(bits: u64, segment: u64) -> u64
 }
 
 // A new branch with the children of a branch, all of them shared, but for the one at a segment.
-fn cut_at(a: &mut [u64], z: Shape, segment: u64, depth: u64, r: u64, at: u64) -> u64
+fn cut_branch(a: &mut [u64], z: Shape, segment: u64, depth: u64, r: u64, at: u64) -> u64
     requires lent { Lent z a.old }
-    requires in_depths { (depth < z.depths) × (segment < 64) }
+    requires in_depths { depth < z.depths }
+    requires in_bitmap { segment < 64 }
     ensures { wrote result a.new ≡ cut_at z segment depth r at a.old }
 {
     let bits = kids::bits(&*a, z, depth, r);
@@ -227,12 +213,12 @@ fn cut_child(a: &mut [u64], z: Shape, hash: u64, depth: u64, r: u64) -> u64
     ensures { wrote result a.new ≡ child_cut z hash depth r a.old }
 {
     let at = place(&*a, z, hash, depth, r);
-    if is_lone(&*a, z, r, at) {
+    if leaves_single(&*a, z, r, at) {
         let child = out(&*a, z, r, at, 0);
         shares::share(&mut *a, z, child);
         return child;
     }
-    cut_at(
+    cut_branch(
         a,
         z,
         segments::segment_at(hash, depth, z.bits),
@@ -243,16 +229,10 @@ fn cut_child(a: &mut [u64], z: Shape, hash: u64, depth: u64, r: u64) -> u64
 }
 
 // Whether a child is the chain at the end of the path, and nothing is left of it.
-fn is_emptied(z: Shape, leaf: u64, left: u64, child: u64) -> bool
+fn becomes_empty(z: Shape, leaf: u64, left: u64, child: u64) -> bool
     ensures { result ≡ is_emptied z leaf left child }
 {
-    if leaf != 0 {
-        return false;
-    }
-    if left == 0 {
-        return true;
-    }
-    links::is_entry(z, child)
+    leaf == 0 && (left == 0 || links::is_entry(z, child))
 }
 
 // The new path below a node, with what is left of the chain at its end, which may be none: from branch to child, with the
@@ -270,13 +250,13 @@ pub fn prune(a: &mut [u64], z: Shape, hash: u64, leaf: u64, left: u64, r: u64) -
     }
     let depth = z.depths - left;
     match grafts::follow(&*a, z, hash, depth, r) {
-        Onward::Child(child) => {
-            if is_emptied(z, leaf, left - 1, child) {
+        Some(child) => {
+            if becomes_empty(z, leaf, left - 1, child) {
                 return cut_child(a, z, hash, depth, r);
             }
             let below = prune(&mut *a, z, hash, leaf, left - 1, child);
             settle_below(a, z, hash, depth, r, below)
         }
-        Onward::Missing => 0,
+        None => 0,
     }
 }

@@ -8,7 +8,7 @@ pub mod names;
 pub mod shape;
 pub mod shows;
 
-use shape::Frame;
+use shape::{Arena, Kind};
 
 // The three memories of a decision.
 const CELLS: usize = 128;
@@ -16,10 +16,10 @@ const CELLS: usize = 128;
 const DEPTHS: usize = 64;
 
 // Slot: held (0 or 1), root, size; all 0 if not held. A held root shows a trie with its size.
-fn is_slot_right(a: &[u64], f: Frame, s: u64) -> bool {
-    let held = shape::slot_word(a, s, 0);
-    let root = shape::slot_word(a, s, 1);
-    let size = shape::slot_word(a, s, 2);
+fn is_slot_right(a: Arena, s: u64) -> bool {
+    let held = a.slot_word(s, 0);
+    let root = a.slot_word(s, 1);
+    let size = a.slot_word(s, 2);
     if held == 0 {
         return root == 0 && size == 0;
     }
@@ -30,48 +30,37 @@ fn is_slot_right(a: &[u64], f: Frame, s: u64) -> bool {
         return size == 0;
     }
     let mut path = [0u64; DEPTHS];
-    let shown = shows::entries_below(a, f, &mut path, 0, root);
-    shown != 0 && shown == size
+    shows::entries_below(a, &mut path, 0, root) == Some(size)
 }
 
-fn are_slots_right(a: &[u64], f: Frame) -> bool {
-    let mut s = 0;
-    while s < f.slots {
-        if !is_slot_right(a, f, s) {
-            return false;
-        }
-        s += 1;
-    }
-    true
+fn are_slots_right(a: Arena) -> bool {
+    (0..a.slots).all(|s| is_slot_right(a, s))
 }
 
-fn name_slot(a: &[u64], f: Frame, named: &mut [u64], s: u64) {
-    if shape::slot_word(a, s, 0) == 1 {
-        names::follow(a, f, named, 140, shape::slot_word(a, s, 1));
+fn name_slot(a: Arena, named: &mut [u64], s: u64) {
+    if a.slot_word(s, 0) == 1 {
+        names::follow(a, named, 140, a.slot_word(s, 1));
     }
 }
 
 // Every word of a held slot or a reached cell that names a cell, counted at that cell.
-fn name_all(a: &[u64], f: Frame, named: &mut [u64]) {
-    let mut s = 0;
-    while s < f.slots {
-        name_slot(a, f, &mut *named, s);
-        s += 1;
+fn name_all(a: Arena, named: &mut [u64]) {
+    for s in 0..a.slots {
+        name_slot(a, &mut *named, s);
     }
 }
 
 // Whether the words of an arena are sound.
-pub fn is_sound(a: &[u64]) -> bool {
-    let f = shape::read(a);
-    if f.degree == 0 {
+pub fn is_sound(words: &[u64]) -> bool {
+    let Some(a) = Arena::read(words) else {
         return false;
-    }
-    if !are_slots_right(a, f) {
+    };
+    if !are_slots_right(a) {
         return false;
     }
     let mut named = [0u64; CELLS];
-    name_all(a, f, &mut named);
+    name_all(a, &mut named);
     let mut chained = [0u64; CELLS];
-    names::is_kind_right(a, f, &named, &mut chained, 0)
-        && names::is_kind_right(a, f, &named, &mut chained, 1)
+    names::is_kind_right(a, &named, &mut chained, Kind::Branch)
+        && names::is_kind_right(a, &named, &mut chained, Kind::Entry)
 }

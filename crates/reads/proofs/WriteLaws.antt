@@ -8,8 +8,8 @@ use mathlib.Core.List.{List, [], ◌∷◌, ◌++◌, append_assoc}
 use native.Mathlib.Numerals.{add-one}
 use native.Mathlib.Omega.{arith}
 use lib.Dec.{eqb}
-use lib.ListN.{length-set, length, set, take, drop, length-append, take-append-drop}
-use lib.Seq.{sets, sets-eq, length-sets, length-take-le, take_at, drop-append-add, drop-drop, take-nil, drop-nil}
+use lib.ListN.{length, set, take, drop, length-append, take-append-drop}
+use lib.Seq.{sets, sets-eq, length-sets, length-take-le, take_at, drop-append-add, drop-drop, take-nil}
 use Rattle.trie.specs.Entry.{Entry, Got, absent, got}
 use Rattle.trie.specs.Trie.{answers, every}
 use Rattle.layout.specs.declared.Shape.{Shape}
@@ -128,18 +128,10 @@ rest_end {out₀} {out} {all} {es} {end} {count} R over =
     nothing = ap (written_at out end) none ∙ ap (λ (n : ℕ). take end out ++ drop n out) {x = end + 3 * 0} {y = end} (omega arith)
 
 -- GOING PAST n ENTRIES
-pub skip_next : {n : ℕ} {es es' : List Entry} {e : Entry} → 0 < n → es ≡ e ∷ es' → drop n es ≡ drop (n - 1) es'
-skip_next {n} {es} {es'} {e} more next =
-    let s : n ≡ suc (n - 1) = omega arith in
-    ap (λ (m : ℕ). drop m es) s ∙ ap (drop (suc (n - 1))) next
-
--- there are no more entries
-pub skip_short : (n : ℕ) {es : List Entry} → es ≡ [] → drop n es ≡ es
-skip_short n none = rw none (drop-nil n)
-
--- none is left to go past
-pub skip_done : {n : ℕ} {es : List Entry} → n ≡ 0 → drop n es ≡ es
-skip_done none = rw none
+pub skip_next : {n t : ℕ} {es es' : List Entry} {e : Entry} → t < n → es ≡ e ∷ es' → drop (n - t) es ≡ drop (n - (t + 1)) es'
+skip_next {n} {t} {es} {es'} {e} more next =
+    let s : n - t ≡ suc (n - (t + 1)) = omega arith in
+    ap (λ (m : ℕ). drop m es) s ∙ ap (drop (suc (n - (t + 1)))) next
 
 -- COMPARING: each entry passes the test, until one does not
 module _ (p : Entry → Bool) {es : List Entry} where
@@ -179,10 +171,6 @@ is_entry_in_words z a root r h k w e eh ek ew =
 
 pub agree_start : (z : Shape) (a : List ℕ) (r s : ℕ) {es : List Entry} → es ≡ met z a r → agree z a r s ≡ every (is_entry_in z a s) es
 agree_start z a r s e = ap (every (is_entry_in z a s)) (sym e)
-
--- two stores keep the length
-pub stored_length : (out : List ℕ) (i x j y : ℕ) → length (set (set out i x) j y) ≡ length out
-stored_length out i x j y = length-set (set out i x) j y ∙ length-set out i x
 
 -- a listing: to the first entry, past those before the place, and then written
 pub listed_whole : {all es fs : List Entry} (place : ℕ) (out : List ℕ) {n : ℕ} {out' : List ℕ} → es ≡ all → fs ≡ drop place es

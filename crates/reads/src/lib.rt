@@ -11,54 +11,49 @@ ghost use Rattle.iter.specs.Met.{met, still, Settled};
 ghost use Rattle.reads.specs.Listed.{written, written_over};
 ghost use Rattle.reads.specs.Agrees.{is_entry_in, agree};
 
-use iter::Iter;
+use iter::Walk;
 use layout::{Shape, words};
-use lookup::Hit;
 
 // The words that an entry takes in an output: hash, key, value.
 pub const ENTRY_WORDS: usize = 3;
 
 // Past `n` entries, or past all if there are fewer.
-fn skip(a: &[u64], z: Shape, stack: &mut [u64], from: Iter, n: u64) -> Iter
+#[tactic(auto, using(iter::proofs::WalkLaws::met_stop))]
+fn skip(a: &[u64], z: Shape, walk: &mut Walk, n: u64)
     requires lent { Lent z a.now }
-    requires stack_len { (length stack.old ≡ 65) × Settled z from }
-    ensures still_to_come { still z a.now stack.new result ≡ drop n (still z a.now stack.old from) }
-    ensures settled { Settled z result }
+    requires settled { Settled z walk.old }
+    ensures still_to_come { still z a.now walk.new ≡ drop n (still z a.now walk.old) }
+    ensures settled { Settled z walk.new }
 {
-    let mut it = from;
-    let mut left = n;
-    while left > 0 {
-        if !iter::has_entry(z, it) {
-            return it;
+    for _ in 0..n {
+        if !walk.has_entry(z) {
+            return;
         }
-        it = iter::next(a, z, &mut *stack, it);
-        left -= 1;
+        walk.next(a, z);
     }
-    it
 }
 
 // Hash, key and value of each entry that is still to come, while three words of room remain. Answers how many.
-fn write(a: &[u64], z: Shape, stack: &mut [u64], from: Iter, out: &mut [u64]) -> u64
+#[tactic(auto, using(lookup::proofs::FindLaws::has_part, iter::proofs::WalkLaws::entry_here))]
+fn write(a: &[u64], z: Shape, walk: &mut Walk, out: &mut [u64]) -> u64
     requires lent { Lent z a.now }
-    requires stack_len { (length stack.old ≡ 65) × Settled z from }
-    ensures answers { result ≡ length (take (length out.old / 3) (still z a.now stack.old from)) }
-    ensures leaves { out.new ≡ written_over (take (length out.old / 3) (still z a.now stack.old from)) out.old }
+    requires settled { Settled z walk.old }
+    ensures answers { result ≡ length (take (length out.old / 3) (still z a.now walk.old)) }
+    ensures leaves { out.new ≡ written_over (take (length out.old / 3) (still z a.now walk.old)) out.old }
 {
-    let mut it = from;
-    let mut end = 0;
-    let mut count = 0;
-    while ENTRY_WORDS <= out.len() - end {
-        if !iter::has_entry(z, it) {
-            return count;
+    let room = out.len() / ENTRY_WORDS;
+    for k in 0..room {
+        if !walk.has_entry(z) {
+            return k as u64;
         }
-        out[end] = words::word(a, z, it.at, words::HASH);
-        out[end + 1] = words::word(a, z, it.at, words::KEY);
-        out[end + 2] = words::word(a, z, it.at, words::VALUE);
-        end += ENTRY_WORDS;
-        count += 1;
-        it = iter::next(a, z, &mut *stack, it);
+        let end = ENTRY_WORDS * k;
+        let entry = walk.at;
+        out[end] = words::word(a, z, entry, words::HASH);
+        out[end + 1] = words::word(a, z, entry, words::KEY);
+        out[end + 2] = words::word(a, z, entry, words::VALUE);
+        walk.next(a, z);
     }
-    count
+    room as u64
 }
 
 // The entries below a root from a place on, as many as there is room for. Answers how many.
@@ -67,10 +62,9 @@ pub fn list(a: &[u64], z: Shape, root: u64, place: u64, out: &mut [u64]) -> u64
     ensures answers { result ≡ length (written (met z a.now root) place (length out.old)) }
     ensures leaves { out.new ≡ written_over (written (met z a.now root) place (length out.old)) out.old }
 {
-    let mut stack = [0u64; iter::PLACES];
-    let first = iter::start(a, z, &mut stack, root);
-    let from = skip(a, z, &mut stack, first, place);
-    write(a, z, &mut stack, from, out)
+    let mut walk = Walk::start(a, z, root);
+    skip(a, z, &mut walk, place);
+    write(a, z, &mut walk, out)
 }
 
 // Whether an entry stands below a root with the same value.
@@ -82,26 +76,27 @@ fn is_in(a: &[u64], z: Shape, root: u64, entry: u64) -> bool
     let hash = words::word(a, z, entry, words::HASH);
     let key = words::word(a, z, entry, words::KEY);
     match lookup::find(a, z, lookup::descend(a, z, root, hash), hash, key) {
-        Hit::At(r) => {
+        Some(r) => {
             let found = words::word(a, z, r, words::VALUE);
             found == words::word(a, z, entry, words::VALUE)
         }
-        Hit::Nowhere => false,
+        None => false,
     }
 }
 
 // Whether each entry below the first root is below the second with the same value.
+#[tactic(auto, using(crate::proofs::WriteLaws::agree_start, crate::proofs::WriteLaws::every_stop, crate::proofs::WriteLaws::every_next, crate::proofs::WriteLaws::every_none, iter::proofs::WalkLaws::met_stop, iter::proofs::WalkLaws::met_entry, iter::proofs::WalkLaws::entry_here))]
 pub fn agrees(a: &[u64], z: Shape, first: u64, second: u64) -> bool
     requires { Lent z a.now }
     ensures { result ≡ agree z a.now first second }
 {
-    let mut stack = [0u64; iter::PLACES];
-    let mut it = iter::start(a, z, &mut stack, first);
-    while iter::has_entry(z, it) {
-        if !is_in(a, z, second, it.at) {
+    // A while: the walk itself shows how many entries there are.
+    let mut walk = Walk::start(a, z, first);
+    while walk.has_entry(z) {
+        if !is_in(a, z, second, walk.at) {
             return false;
         }
-        it = iter::next(a, z, &mut stack, it);
+        walk.next(a, z);
     }
     true
 }

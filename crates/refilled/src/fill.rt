@@ -1,31 +1,33 @@
 //! Updates from one edition to the next until there is no cell for one: three inserts of a new key, then a removal of an
 //! older one, and so on.
 use crate::keys;
-use shelf::Updated;
+use shelf::{Refusal, Updated};
 use shown::answer;
 
-// Where the updates stand: the edition that the last one made, the one that the tenth made, and the key that is inserted next;
-// how many there were, and how many were to remove a key that is not there. What ended them is a number, 0 until then.
-#[derive(Clone, Copy)]
+// Where the updates stand: the edition that they began with, the one that the last made, the one that the tenth made, and the key that is inserted next;
+// how many there were, and how many were to remove a key that is not there. What ended them is the number of a refusal.
+#[derive(Clone, Copy, Debug)]
 pub struct Run {
+    pub first: u64,
     pub edition: u64,
     pub tenth: u64,
     pub key: u64,
     pub made: u64,
     pub absent: u64,
-    pub ended: u64,
+    pub ended: Option<u64>,
 }
 
 impl Run {
     // Before the first update of an edition.
     pub fn new(edition: u64, key: u64) -> Self {
         Run {
-            edition: edition,
+            first: edition,
+            edition,
             tenth: edition,
-            key: key,
+            key,
             made: 0,
             absent: 0,
-            ended: 0,
+            ended: None,
         }
     }
 
@@ -42,19 +44,21 @@ impl Run {
         if number == 6 {
             self.absent = answer::count(self.absent);
         } else {
-            self.ended = number;
+            self.ended = Some(number);
         }
         self
     }
 
-    fn after(self, answer: Updated) -> Self {
+    fn after(self, answer: Result<Updated, Refusal>) -> Self {
         match answer {
-            Updated::Edition {
-                edition,
-                branches: _,
-                entries: _,
-            } => self.at(edition),
-            Updated::Refused(why) => self.refused(why.number()),
+            Ok(
+                Updated {
+                    edition,
+                    branches: _,
+                    entries: _,
+                },
+            ) => self.at(edition),
+            Err(why) => self.refused(why.number()),
         }
     }
 
@@ -83,13 +87,11 @@ const TURNS: u64 = 200;
 
 pub fn fill(a: &mut [u64], begun: Run) -> Run {
     let mut run = begun;
-    let mut turn = 0;
-    while turn < TURNS {
-        if run.ended != 0 {
+    for turn in 0..TURNS {
+        if run.ended.is_some() {
             return run;
         }
         run = run.update(a, turn);
-        turn += 1;
     }
     run
 }

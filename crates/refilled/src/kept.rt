@@ -1,10 +1,10 @@
 //! All editions dropped but one, which lists as before.
-use shelf::Dropped;
+use shelf::{CellCounts, Refusal};
 use shown::{answer, lent};
 use std::io;
 
 // How many editions were dropped, and the cells that they freed.
-#[derive(Clone, Copy)]
+#[derive(Clone, Copy, Debug, Default)]
 pub struct Freed {
     pub editions: u64,
     pub branches: u64,
@@ -12,23 +12,15 @@ pub struct Freed {
 }
 
 impl Freed {
-    fn new() -> Self {
-        Freed {
-            editions: 0,
-            branches: 0,
-            entries: 0,
-        }
-    }
-
     // And one more, if it was held.
-    fn with(self, answer: Dropped) -> Self {
+    fn with(self, answer: Result<CellCounts, Refusal>) -> Self {
         match answer {
-            Dropped::Freed { branches, entries } => Freed {
+            Ok(CellCounts { branches, entries }) => Freed {
                 editions: answer::count(self.editions),
                 branches: std::num::wrapping_add_u64(self.branches, branches),
                 entries: std::num::wrapping_add_u64(self.entries, entries),
             },
-            Dropped::Refused(_) => self,
+            Err(_) => self,
         }
     }
 
@@ -42,13 +34,12 @@ impl Freed {
 }
 
 // The editions of so many slots, all but one, from the lowest on or from the highest down.
+// A flag: it is read in one expression, and an iterator as a parameter would have more to require.
 fn drop_others(a: &mut [u64], slots: u64, kept: u64, down: bool) -> Freed {
-    let mut freed = Freed::new();
-    let mut i = 0;
-    while i < slots {
+    let mut freed = Freed::default();
+    for i in 0..slots {
         let edition = if down { slots - 1 - i } else { i };
         freed = freed.drop(a, edition, kept);
-        i += 1;
     }
     freed
 }
@@ -56,10 +47,8 @@ fn drop_others(a: &mut [u64], slots: u64, kept: u64, down: bool) -> Freed {
 // The words of a listing as one number.
 fn sum(words: &[u64]) -> u64 {
     let mut n = 0;
-    let mut i = 0;
-    while i < words.len() {
-        n = (n % 4294967296 * 31 + words[i] % 4294967296) % 4294967296;
-        i += 1;
+    for word in words {
+        n = (n % 4294967296 * 31 + word % 4294967296) % 4294967296;
     }
     n
 }
@@ -79,7 +68,7 @@ pub fn alone(
     answer::say_counted(rt, shelf::list(a, kept, 0, &mut before))?;
     print::decimal(rt, b" entries, sum ", sum(&before))?;
     let freed = drop_others(a, slots, kept, down);
-    shelf::list(a, kept, 0, &mut behind);
+    let _ = shelf::list(a, kept, 0, &mut behind);
     if lent::is_same(&before, &behind) {
         print::say(rt, b", listed as before")?;
     } else {

@@ -50,6 +50,14 @@ module _ (z : Shape) (r : ℕ) (a : List ℕ) where
       (eu ∙ ap (λ (x : List ℕ). give_back_words z x r) (ev ∙ ap (λ (x : List ℕ). take_out_words z x r 0) q)))
       ∙ ap (λ (x : ℕ). chain_from z x next u) (sym m)
 
+  -- in a loop of e turns, at turn t
+  pub chain_turn : (e t next : ℕ) (w v u : List ℕ) → t < e → names_kind z 1 r ≡ true → is_last z a r ≡ true → w ≡ less_words z a r
+      → next ≡ (columns z w).kid r 0 → v ≡ take_out_words z w r 0 → u ≡ give_back_words z v r
+      → chain_from z (e - t) r a ≡ chain_from z (e - (t + 1)) next u
+  chain_turn e t next w v u l named o ew en ev eu =
+      let m : e - t - 1 ≡ e - (t + 1) = omega arith in
+      chain_next (e - t) next w v u (omega arith) named o ew en ev eu ∙ ap (λ (n : ℕ). chain_from z n next u) m
+
 -- PLACES
 pub place_by : (z : Shape) (a : List ℕ) (t r n : ℕ) → names_kind z 0 r ≡ true → n ≡ word z a r 1
     → eqb n t ≡ at_place z (columns z a) t r

@@ -40,9 +40,8 @@ fn release_chain(a: &mut [u64], z: Shape, front: u64)
     requires { Lent z a.old }
     ensures { a.new ≡ chain_from z z.entries front a.old }
 {
-    let mut left = z.entries;
     let mut r = front;
-    while left > 0 {
+    for _ in 0..z.entries {
         if !links::is_entry(z, r) {
             return;
         }
@@ -52,20 +51,16 @@ fn release_chain(a: &mut [u64], z: Shape, front: u64)
         let next = fill::take_out(&mut *a, z, r, 0);
         free::give_back(&mut *a, z, r);
         r = next;
-        left -= 1;
     }
 }
 
 // Whether a reference names a branch whose depth is its place.
+#[tactic(auto, using(crate::proofs::StepLaws::place_by, crate::proofs::CaseLaws::place_none, layout::proofs::ColumnLaws::has_low, lookup::proofs::FindLaws::kind_says))]
 fn is_at_place(a: &[u64], z: Shape, depth: u64, r: u64) -> bool
     requires { Lent z a.now }
     ensures { result ≡ at_place z (columns z a.now) depth r }
 {
-    if links::is_branch(z, r) {
-        words::word(a, z, r, words::MARK) == depth
-    } else {
-        false
-    }
+    links::is_branch(z, r) && words::word(a, z, r, words::MARK) == depth
 }
 
 // Whether a release comes to a cell that other words name too: then one word fewer is all that it does.
@@ -84,6 +79,7 @@ fn is_shared(a: &[u64], z: Shape, t: &[u64], left: u64, r: u64) -> bool
 }
 
 // One word fewer names a cell that some word names.
+#[tactic(auto, using(layout::proofs::ColumnLaws::has_low))]
 fn lessen(a: &mut [u64], z: Shape, t: &[u64], r: u64)
     requires lent { Lent z a.old × (t.now ≡ table_of z) }
     requires is_in_use { (names z r ≡ true) × (0 < word z a.old r 0) }
@@ -95,6 +91,7 @@ fn lessen(a: &mut [u64], z: Shape, t: &[u64], r: u64)
 
 // The children of a branch from `from` on are let go as far as other words name them too, as they do most: without a call of
 // `release`, which costs more than a count. Answers the first that is left, or the degree. What the row came to so far goes on.
+#[tactic(auto, using(layout::proofs::SizeLaws::small))]
 fn pass(a: &mut [u64], z: Shape, left: u64, r: u64, from: u64) -> u64
     requires lent { Lent z a.old }
     requires rest_of_branch { (names_kind z 0 r ≡ true) × (left ≤ z.depths) × (from ≤ z.degree) }
@@ -102,8 +99,7 @@ fn pass(a: &mut [u64], z: Shape, left: u64, r: u64, from: u64) -> u64
     ensures row_goes_on { RowGoesOn (release_from z left (z.depths - left)) z r from result a.old a.new }
 {
     let t = table::of(z);
-    let mut k = from;
-    while k < z.degree {
+    for k in from..z.degree {
         let child = words::word(&*a, z, r, words::CHILDREN + k);
         if child != 0 {
             if !is_shared(&*a, z, &t, left, child) {
@@ -112,9 +108,8 @@ fn pass(a: &mut [u64], z: Shape, left: u64, r: u64, from: u64) -> u64
             words::set_word(&mut *a, z, r, words::CHILDREN + k, 0);
             lessen(&mut *a, z, &t, child);
         }
-        k += 1;
     }
-    k
+    z.degree
 }
 
 // A reference is let go: from branch to child, with the depths left falling. Each word of a branch is taken out before what it
@@ -137,6 +132,7 @@ pub fn release(a: &mut [u64], z: Shape, left: u64, r: u64)
     if !is_last(&mut *a, z, r) {
         return;
     }
+    // A while: `pass` decides which child is next.
     let mut k = pass(&mut *a, z, left - 1, r, 0);
     while k < z.degree {
         let child = fill::take_out(&mut *a, z, r, k);

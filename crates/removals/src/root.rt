@@ -1,13 +1,20 @@
 //! K9, whose root is an entry: what is inserted into it, changed in it and taken out of it.
 use crate::shows;
-use shown::steps;
+use shown::{entries, steps};
 use std::io;
 
 fn inserts(rt: &impl Print, a: &mut [u64]) -> io::Result<()> {
-    shows::insert(rt, a, b"  K10, A into 3", 3, 0x26, 1, 10)?;
-    shows::insert(rt, a, b"  B with 21 into 3", 3, 0x16, 2, 21)?;
-    shows::insert(rt, a, b"  key 3 under B's hash into 3", 3, 0x16, 3, 30)?;
-    shows::insert(rt, a, b"  C into 3", 3, 0x42, 3, 30)
+    shows::insert(rt, a, b"  K10, A into 3", 3, entries::of_step(1))?;
+    shows::insert(
+        rt,
+        a,
+        b"  B with 21 into 3",
+        3,
+        entries::an_entry(0x16, 2, 21),
+    )?;
+    let key_3 = entries::an_entry(0x16, 3, 30);
+    shows::insert(rt, a, b"  key 3 under B's hash into 3", 3, key_3)?;
+    shows::insert(rt, a, b"  C into 3", 3, entries::of_step(3))
 }
 
 fn change(rt: &impl Print, a: &mut [u64]) -> io::Result<()> {
@@ -26,7 +33,7 @@ fn removes(rt: &impl Print, a: &mut [u64]) -> io::Result<()> {
 pub fn show(rt: &impl Print) -> io::Result<()> {
     print::say(rt, b"A root that is the entry B (degree 16)\n")?;
     let mut a = [0u64; 508];
-    shelf::format(&mut a, 16, 22, 7, 12);
+    let _ = shelf::format(&mut a, 16, 22, 7, 12);
     steps::before(&mut a, 3);
     shows::remove(rt, &mut a, b"  K9, A out of 2", 2, 0x26, 1)?;
     inserts(rt, &mut a)?;

@@ -16,22 +16,15 @@ fn to_k10(rt: &impl Print, a: &mut [u64]) -> io::Result<()> {
     shows::remove(rt, a, b"  K7, D out of 5", 5, entries::CHAIN, 4)?;
     shows::remove(rt, a, b"  K8, E out of 5", 5, entries::CHAIN, 5)?;
     shows::remove(rt, a, b"  K9, A out of 2", 2, 0x26, 1)?;
-    shows::insert(rt, a, b"  K10, A into 8", 8, 0x26, 1, 10)
+    shows::insert(rt, a, b"  K10, A into 8", 8, entries::of_step(1))
 }
 
 // K6 is edition 12.
 fn also(rt: &impl Print, a: &mut [u64]) -> io::Result<()> {
-    shows::insert(
-        rt,
-        a,
-        b"  key 6 under D's hash into 5",
-        5,
-        entries::CHAIN,
-        6,
-        60,
-    )?;
+    let key_6 = entries::an_entry(entries::CHAIN, 6, 60);
+    shows::insert(rt, a, b"  key 6 under D's hash into 5", 5, key_6)?;
     shows::remove(rt, a, b"  key 6 out of 10", 10, entries::CHAIN, 6)?;
-    shows::insert(rt, a, b"  K6, D with 41 into 5", 5, entries::CHAIN, 4, 41)?;
+    shows::insert(rt, a, b"  K6, D with 41 into 5", 5, entries::of_step(6))?;
     shows::remove(rt, a, b"  D out of 12", 12, entries::CHAIN, 4)?;
     shows::remove(rt, a, b"  A out of 1", 1, 0x26, 1)
 }
@@ -49,7 +42,7 @@ fn compare(rt: &impl Print, a: &[u64]) -> io::Result<()> {
 pub fn show(rt: &impl Print) -> io::Result<()> {
     print::say(rt, b"Removals from the shelf table (degree 16)\n")?;
     let mut a = [0u64; 2246];
-    shelf::format(&mut a, 16, 110, 16, 16);
+    let _ = shelf::format(&mut a, 16, 110, 16, 16);
     to_k5(rt, &mut a)?;
     to_k10(rt, &mut a)?;
     also(rt, &mut a)?;

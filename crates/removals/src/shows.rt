@@ -1,7 +1,8 @@
 //! An update shown: the cells that it took, what is in use behind it, its root, and every edition up to its own.
 ghost use Rattle.std.specs.Prelude.{◌<◌};
 
-use shelf::Updated;
+use shelf::{Refusal, Updated};
+use shown::entries::Entry;
 use shown::{answer, lent, listed};
 use std::io;
 
@@ -15,10 +16,8 @@ fn say_root(rt: &impl Print, a: &[u64], edition: u64) -> io::Result<()>
 {
     let root = lent::word(a, 13 + 3 * edition as usize);
     if root == 0 {
-        print::say(rt, b"; root 0\n")?;
-        return Ok(());
-    }
-    if root % 2 == 0 {
+        print::say(rt, b"; root 0\n")
+    } else if root % 2 == 0 {
         print::say(rt, b"; root a branch\n")
     } else {
         print::say(rt, b"; root an entry\n")
@@ -33,17 +32,24 @@ fn editions_to(rt: &impl Print, a: &[u64], edition: u64) -> io::Result<()> {
     Ok(())
 }
 
-pub fn update(rt: &impl Print, a: &[u64], label: &[u8], answer: Updated) -> io::Result<()> {
+pub fn update(
+    rt: &impl Print,
+    a: &[u64],
+    label: &[u8],
+    answer: Result<Updated, Refusal>,
+) -> io::Result<()> {
     print::say(rt, label)?;
     answer::say_updated(rt, answer)?;
     answer::say_use(rt, b"; in use", a)?;
     match answer {
-        Updated::Edition {
-            edition,
-            branches: _,
-            entries: _,
-        } => editions_to(rt, a, edition),
-        Updated::Refused(_) => print::say(rt, b"\n"),
+        Ok(
+            Updated {
+                edition,
+                branches: _,
+                entries: _,
+            },
+        ) => editions_to(rt, a, edition),
+        Err(_) => print::say(rt, b"\n"),
     }
 }
 
@@ -64,10 +70,8 @@ pub fn insert(
     a: &mut [u64],
     label: &[u8],
     edition: u64,
-    hash: u64,
-    key: u64,
-    value: u64,
+    e: Entry,
 ) -> io::Result<()> {
-    let answer = shelf::insert(a, edition, hash, key, value);
+    let answer = shelf::insert(a, edition, e.hash, e.key, e.value);
     update(rt, a, label, answer)
 }

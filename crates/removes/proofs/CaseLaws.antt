@@ -7,7 +7,6 @@ use mathlib.Core.List.{List}
 use Rattle.cases.proofs.Cases.{split}
 use Rattle.layout.specs.declared.Shape.{Shape}
 use Rattle.layout.specs.Columns.{State, columns}
-use Rattle.lookup.specs.declared.Hit.TheVariants.{At, Nowhere}
 use Rattle.lookup.specs.Lookup.{path_end, hit_from, longest}
 use Rattle.cells.specs.Mirrors.{Wrote}
 use Rattle.chains.specs.Chains.{taken_from}
@@ -19,6 +18,7 @@ use Rattle.grants.specs.Rooms.{held_to, hold_to}
 use Rattle.grants.proofs.CaseLaws.{Update}
 use Rattle.removes.specs.declared.Cut.{Cut}
 use Rattle.removes.specs.Calls.{cutting, absent, cut_of, lacks, chain_to, take_to, cut_to}
+use Rattle.std.specs.Prelude.{Some, None}
 
 -- what a call knows once it has read, and what it does with a slot: by what was found, and by what the reading pass finds
 abbrev pub removing_by : Shape → List ℕ → ℕ → Cut → Update
@@ -35,12 +35,12 @@ module _ (z : Shape) (a : List ℕ) (e h k : ℕ) where
   abbrev end : ℕ
   end = path_end z σ h z.depths 0 (σ.root e)
 
-  pub cut_there : (q : ℕ) → hit_from z σ h k (longest z) end ≡ At q
+  pub cut_there : (q : ℕ) → hit_from z σ h k (longest z) end ≡ Some q
       → cut_of z a e h k ≡ cutting z σ (σ.root e) (σ.size e) h end q
   unfolding cut_of
   cut_there q y = rw y
 
-  pub cut_absent : hit_from z σ h k (longest z) end ≡ Nowhere → cut_of z a e h k ≡ absent
+  pub cut_absent : hit_from z σ h k (longest z) end ≡ None → cut_of z a e h k ≡ absent
   unfolding cut_of
   cut_absent y = rw y
 

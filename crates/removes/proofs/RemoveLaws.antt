@@ -9,8 +9,7 @@ use Rattle.layout.proofs.HeaderLaws.{Header-Lent}
 use Rattle.trie.specs.Built.{removed}
 use Rattle.trie.specs.Names.{rename_updated}
 use Rattle.trie.proofs.RenameMaps.{rename-remove}
-use Rattle.replies.specs.declared.Updated.{Updated}
-use Rattle.replies.specs.Answers.{updated}
+use Rattle.replies.specs.Answers.{update_answer}
 use Rattle.replies.specs.Outcomes.{leaves}
 use Rattle.grants.proofs.MeansLaws.{Writer, Builds, updates}
 use Rattle.removes.specs.Calls.{cut_of, remove_of}
@@ -19,6 +18,9 @@ use Rattle.removes.proofs.CaseLaws.{removing}
 use Rattle.removes.proofs.InsideLaws.{cut_Kept}
 use Rattle.removes.proofs.SlotLaws.{cut_slot}
 use Rattle.removes.proofs.RoomLaws.{removal_Does}
+use Rattle.std.specs.Prelude.{Result}
+use Rattle.replies.specs.declared.Refusal.{Refusal}
+use Rattle.replies.specs.declared.Updated.{Updated}
 
 -- what can be built can be built with an entry less
 remove_Builds : (h k : ℕ) → Builds (remove_step h k)
@@ -38,5 +40,5 @@ writer a e h k =
     }
 
 -- THE CONTRACT
-pub removes : (a : List ℕ) (e h k : ℕ) (r : Updated) (b : List ℕ) → leaves (updated r) b ≡ remove_of a e h k → Removes a e h k r b
+pub removes : (a : List ℕ) (e h k : ℕ) (r : Result Updated Refusal) (b : List ℕ) → leaves (update_answer r) b ≡ remove_of a e h k → Removes a e h k r b
 removes a e h k = updates (writer a e h k) (remove_Builds h k)

@@ -1,11 +1,9 @@
 -- What remove answers and every word that it leaves, on any words: document 01, "Answer numbers", its tests in its order, and
 -- "What an update takes".
-use Rattle.std.specs.Prelude.{ℕ, ◌-◌, Bool, true, false, cond, List, eqb, ltb}
+use Rattle.std.specs.Prelude.{ℕ, ◌-◌, Bool, true, false, cond, List, eqb, ltb, Option, Some, None}
 use Rattle.layout.specs.declared.Shape.{Shape}
 use Rattle.layout.specs.Header.{header_of}
 use Rattle.layout.specs.Columns.{State, columns}
-use Rattle.lookup.specs.declared.Hit.{Hit}
-use Rattle.lookup.specs.declared.Hit.TheVariants as H
 use Rattle.lookup.specs.Lookup.{path_end, hit_from, longest}
 use Rattle.cells.specs.Mirrors.{Wrote}
 use Rattle.chains.specs.Chains.{length_at, taken_from}
@@ -47,9 +45,9 @@ cutting z σ root size h front q =
 abbrev pub absent : Cut
 absent = record { root = 0; size = 0; front = 0; before = 0; rest = 0; branches = 0; empty = false; found = false }
 
-abbrev pub cut_by : Shape → State → ℕ → ℕ → ℕ → ℕ → Hit → Cut
-cut_by z σ root size h front (H.At q) = cutting z σ root size h front q
-cut_by z σ root size h front H.Nowhere = absent
+abbrev pub cut_by : Shape → State → ℕ → ℕ → ℕ → ℕ → Option ℕ → Cut
+cut_by z σ root size h front (Some q) = cutting z σ root size h front q
+cut_by z σ root size h front None = absent
 
 abbrev pub cut_from : Shape → State → ℕ → ℕ → ℕ → ℕ → ℕ → Cut
 cut_from z σ root size h k front = cut_by z σ root size h front (hit_from z σ h k (longest z) front)

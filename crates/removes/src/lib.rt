@@ -10,14 +10,13 @@ ghost use Rattle.std.specs.Prelude.{◌≡◌, true, ◌<◌};
 ghost use Rattle.layout.specs.Layout.{Lent};
 ghost use Rattle.layout.specs.Columns.{columns};
 ghost use Rattle.cells.specs.Slots.{held_slot};
-ghost use Rattle.replies.specs.Answers.{updated};
+ghost use Rattle.replies.specs.Answers.{update_answer};
 ghost use Rattle.replies.specs.Outcomes.{leaves};
 ghost use Rattle.removes.specs.Calls.{left_branches, is_none_left, cutting, absent, cut_of, lacks, pruned_to, take_to, cut_to, cutting_to, remove_in};
 
 use cells::{shares, slots};
-use grants::Room;
 use layout::{Shape, words};
-use lookup::{Hit, links};
+use lookup::links;
 use prunes::Left;
 use replies::{Refusal, Updated};
 
@@ -101,16 +100,23 @@ fn survey(a: &[u64], z: Shape, edition: u64, hash: u64, key: u64) -> Cut
     let size = words::slot_word(a, z, edition, words::SIZE);
     let front = lookup::descend(a, z, root, hash);
     match lookup::find(a, z, front, hash, key) {
-        Hit::At(hit) => plan_cut(a, z, root, size, hash, front, hit),
-        Hit::Nowhere => nothing(),
+        Some(hit) => plan_cut(a, z, root, size, hash, front, hit),
+        None => nothing(),
     }
 }
 
 // The path above the chain that is left, then the slot.
-fn write_path(a: &mut [u64], z: Shape, hash: u64, found: Cut, slot: u64, leaf: u64) -> Updated
+fn write_path(
+    a: &mut [u64],
+    z: Shape,
+    hash: u64,
+    found: Cut,
+    slot: u64,
+    leaf: u64,
+) -> Result<Updated, Refusal>
     requires lent { Lent z a.old }
     requires in_slots { slot < z.slots }
-    ensures { leaves (updated result) a.new ≡ pruned_to z hash found slot leaf a.old }
+    ensures { leaves (update_answer result) a.new ≡ pruned_to z hash found slot leaf a.old }
 {
     let root = prunes::prune(&mut *a, z, hash, leaf, z.depths, found.root);
     grants::hold_root(a, z, slot, root, found.size, found.branches, found.before)
@@ -125,23 +131,29 @@ fn is_lacking(leaf: u64, before: u64) -> bool
 
 // The chain without the entry, then the path above it. On a sound arena there are the cells that were counted; on any other a
 // free chain may break off, and then what was written stands, but no slot is taken.
-fn write_chain(a: &mut [u64], z: Shape, hash: u64, found: Cut, slot: u64) -> Updated
+fn write_chain(
+    a: &mut [u64],
+    z: Shape,
+    hash: u64,
+    found: Cut,
+    slot: u64,
+) -> Result<Updated, Refusal>
     requires lent { Lent z a.old }
     requires in_slots { slot < z.slots }
-    ensures { leaves (updated result) a.new ≡ take_to z a.old hash found slot }
+    ensures { leaves (update_answer result) a.new ≡ take_to z a.old hash found slot }
 {
     let leaf = chains::take_from(&mut *a, z, found.before, found.front, found.rest);
     if is_lacking(leaf, found.before) {
-        return Updated::Refused(Refusal::NoEntryCells);
+        return Err(Refusal::NoEntryCells);
     }
     write_path(a, z, hash, found, slot, leaf)
 }
 
 // The new edition in a slot. Where nothing is left it is empty, and takes no cell.
-fn write(a: &mut [u64], z: Shape, hash: u64, found: Cut, slot: u64) -> Updated
+fn write(a: &mut [u64], z: Shape, hash: u64, found: Cut, slot: u64) -> Result<Updated, Refusal>
     requires lent { Lent z a.old }
     requires in_slots { slot < z.slots }
-    ensures { leaves (updated result) a.new ≡ cut_to z a.old hash found slot }
+    ensures { leaves (update_answer result) a.new ≡ cut_to z a.old hash found slot }
 {
     if found.empty {
         return grants::hold_edition(a, z, slot, 0, found.size, found.branches, found.before);
@@ -150,37 +162,48 @@ fn write(a: &mut [u64], z: Shape, hash: u64, found: Cut, slot: u64) -> Updated
 }
 
 // A removal carried out, if there are a slot and the cells for it.
-fn write_found(a: &mut [u64], z: Shape, hash: u64, found: Cut) -> Updated
+#[tactic(auto, using(grants::proofs::CaseLaws::room_in, grants::proofs::CaseLaws::on_At, grants::proofs::CaseLaws::on_refused))]
+fn write_found(a: &mut [u64], z: Shape, hash: u64, found: Cut) -> Result<Updated, Refusal>
     requires { Lent z a.old }
-    ensures { leaves (updated result) a.new ≡ cutting_to z a.old hash found }
+    ensures { leaves (update_answer result) a.new ≡ cutting_to z a.old hash found }
 {
-    match grants::find_room(&*a, z, found.branches, found.before) {
-        Room::At(slot) => write(a, z, hash, found, slot),
-        Room::Refused(why) => Updated::Refused(why),
-    }
+    let slot = grants::find_room(&*a, z, found.branches, found.before)?;
+    write(a, z, hash, found, slot)
 }
 
-fn remove_held(a: &mut [u64], z: Shape, edition: u64, hash: u64, key: u64) -> Updated
+fn remove_held(
+    a: &mut [u64],
+    z: Shape,
+    edition: u64,
+    hash: u64,
+    key: u64,
+) -> Result<Updated, Refusal>
     requires lent { Lent z a.old }
     requires is_held { held_slot z a.old edition ≡ true }
-    ensures { leaves (updated result) a.new ≡ remove_in z a.old edition hash key }
+    ensures { leaves (update_answer result) a.new ≡ remove_in z a.old edition hash key }
 {
     let found = survey(&*a, z, edition, hash, key);
     if found.found {
         write_found(a, z, hash, found)
     } else {
-        Updated::Refused(Refusal::Absent)
+        Err(Refusal::Absent)
     }
 }
 
 // An edition with an entry taken out, in the lowest free slot.
-pub fn remove(a: &mut [u64], z: Shape, edition: u64, hash: u64, key: u64) -> Updated
+pub fn remove(
+    a: &mut [u64],
+    z: Shape,
+    edition: u64,
+    hash: u64,
+    key: u64,
+) -> Result<Updated, Refusal>
     requires { Lent z a.old }
-    ensures { leaves (updated result) a.new ≡ remove_in z a.old edition hash key }
+    ensures { leaves (update_answer result) a.new ≡ remove_in z a.old edition hash key }
 {
     if slots::is_held(&*a, z, edition) {
         remove_held(a, z, edition, hash, key)
     } else {
-        Updated::Refused(Refusal::NoSuchEdition)
+        Err(Refusal::NoSuchEdition)
     }
 }

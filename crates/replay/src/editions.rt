@@ -1,61 +1,47 @@
 //! The answers on editions at one degree: that each line is what its letter asks for, that the crate lists in the order of
 //! our segments, and that each call, made on the shelf, answers the same and lists the same entries.
-use crate::score::count;
+use answers::Line;
 use segments::Index;
 
 // What was read so far. `listing` is how many entries of a listing the next lines have still to show, `last` the hash of
-// the one before them, where there is one, and `place` where the next stands in what the shelf has listed.
+// the one before them, if there is one, and `place` where the next stands in what the shelf has listed.
 #[derive(Clone, Copy)]
 pub struct Tally {
     degree: u64,
     pub entries: u64,
     listing: u64,
-    is_first: bool,
-    last: u64,
+    last: Option<u64>,
     place: usize,
 }
 
-// The tally after a line, and whether the line is right.
-#[derive(Clone, Copy)]
-pub struct Seen {
-    pub tally: Tally,
-    pub right: bool,
-}
-
-// How many arguments a call has; none has nine.
-fn arguments(letter: u8) -> usize {
+// How many arguments a call has, if the letter is a call's.
+fn arguments(letter: u8) -> Option<usize> {
     match letter {
-        b'n' | b'u' => 0,
-        b's' | b'z' | b'd' => 1,
-        b'e' => 2,
-        b'g' | b'l' | b'r' => 3,
-        b'f' | b'i' | b'c' => 4,
-        _ => 9,
+        b'n' | b'u' => Some(0),
+        b's' | b'z' | b'd' => Some(1),
+        b'e' => Some(2),
+        b'g' | b'l' | b'r' => Some(3),
+        b'f' | b'i' | b'c' => Some(4),
+        _ => None,
     }
 }
 
 fn segment(hash: u64, depth: u64, degree: u64) -> u64 {
     match segments::index_from_hash(hash, depth, degree) {
         Index::At(segment) => segment,
-        Index::Exhausted => 0,
-        Index::NoSuchDegree => 0,
+        Index::Exhausted | Index::NoSuchDegree => 0,
     }
 }
 
 // Whether an entry under one hash may stand before an entry under another: the segment is the lower one at the first
 // depth at which they differ.
 fn in_order(before: u64, behind: u64, degree: u64) -> bool {
-    let mut depth = 0;
-    while depth < 64 {
+    for depth in 0..64 {
         let a = segment(before, depth, degree);
         let b = segment(behind, depth, degree);
-        if a < b {
-            return true;
+        if a != b {
+            return a < b;
         }
-        if b < a {
-            return false;
-        }
-        depth += 1;
     }
     true
 }
@@ -68,111 +54,66 @@ fn behind(place: usize) -> usize {
 impl Tally {
     pub fn new(degree: u64) -> Self {
         Tally {
-            degree: degree,
+            degree,
             entries: 0,
             listing: 0,
-            is_first: true,
-            last: 0,
+            last: None,
             place: 0,
         }
     }
 
-    fn seen(self, right: bool) -> Seen {
-        Seen {
-            tally: self,
-            right: right,
-        }
-    }
-
-    // A call has all its numbers, and the listing before it has shown all its entries.
-    fn call(self, arguments: usize, numbers: usize) -> Seen {
-        if 0 < self.listing {
-            return self.seen(false);
-        }
-        if 4 < arguments {
-            return self.seen(false);
-        }
-        self.seen(arguments + 4 == numbers)
-    }
-
-    // Every arena of a file has the file's degree.
-    fn format(self, degree: u64, count: usize) -> Seen {
-        if self.degree != degree {
-            return self.seen(false);
-        }
-        self.call(4, count)
+    // Whether a call has all its numbers, which are its arguments and the four of its answer, and the listing before it has
+    // shown all its entries.
+    fn is_whole(&self, arguments: usize, length: usize) -> bool {
+        self.listing == 0 && length.checked_sub(4) == Some(arguments)
     }
 
     // A listing that is not refused shows as many entries as it says.
-    fn listed(mut self, number: u64, entries: u64) -> Self {
+    fn list(&mut self, number: u64, entries: u64) {
         self.listing = if number == 0 { entries } else { 0 };
-        self.is_first = true;
+        self.last = None;
         self.place = 0;
-        self
-    }
-
-    fn list(self, numbers: [u64; 8], count: usize) -> Seen {
-        let called = self.call(3, count);
-        let tally = called.tally;
-        tally.listed(numbers[3], numbers[4]).seen(called.right)
     }
 
     // An entry of a listing: in order, and what the shelf has listed there.
-    fn entry(mut self, out: &[u64], numbers: [u64; 8], length: usize) -> Seen {
-        let left = self.listing;
-        let place = self.place;
-        let hash = numbers[0];
-        let ordered = self.is_first || in_order(self.last, hash, self.degree);
-        let listed = stored_calls::is_entry(out, place, numbers);
-        self.entries = count(self.entries);
-        self.is_first = false;
-        self.last = hash;
-        self.place = behind(place);
-        if left == 0 {
-            return self.seen(false);
+    fn entry(&mut self, out: &[u64], line: &Line) -> bool {
+        let hash = line.numbers[0];
+        let ordered = match self.last {
+            Some(before) => in_order(before, hash, self.degree),
+            None => true,
+        };
+        let listed = stored_calls::is_entry(out, self.place, line.numbers);
+        self.entries = self.entries.saturating_add(1);
+        self.last = Some(hash);
+        self.place = behind(self.place);
+        let Some(left) = self.listing.checked_sub(1) else {
+            return false;
+        };
+        self.listing = left;
+        ordered && listed && line.count == 3
+    }
+
+    // A call: its form, and its answer. Every arena of a file has the file's degree.
+    fn call(&mut self, a: &mut [u64], out: &mut [u64], line: &Line) -> bool {
+        let Some(arguments) = arguments(line.letter) else {
+            return false;
+        };
+        let numbers = line.numbers;
+        let formed = self.is_whole(arguments, line.count)
+            && (line.letter != b'f' || numbers[0] == self.degree);
+        if line.letter == b'l' {
+            self.list(numbers[3], numbers[4]);
         }
-        self.listing = left - 1;
-        self.seen(ordered && listed && length == 3)
+        let reply = stored_calls::make(a, out, line.letter, numbers);
+        formed && stored_calls::is_answer(reply, numbers, arguments)
     }
 
-    // Whether a call has the form that its letter asks for.
-    fn formed(self, letter: u8, numbers: [u64; 8], length: usize) -> Seen {
-        match letter {
-            b'f' => self.format(numbers[0], length),
-            b'l' => self.list(numbers, length),
-            _ => self.call(arguments(letter), length),
-        }
-    }
-
-    // A call: its form, and its answer.
-    fn called(
-        self,
-        a: &mut [u64],
-        out: &mut [u64],
-        letter: u8,
-        numbers: [u64; 8],
-        length: usize,
-    ) -> Seen {
-        let formed = self.formed(letter, numbers, length);
-        let reply = stored_calls::make(a, out, letter, numbers);
-        let answered = stored_calls::is_answer(reply, numbers, arguments(letter));
-        let tally = formed.tally;
-        tally.seen(formed.right && answered)
-    }
-
-    // A line of so many numbers, on an arena and an output for the listings.
-    pub fn line(
-        self,
-        a: &mut [u64],
-        out: &mut [u64],
-        letter: u8,
-        numbers: [u64; 8],
-        length: usize,
-    ) -> Seen {
-        match letter {
-            b'#' | b't' => self.seen(true),
-            b'+' => self.entry(out, numbers, length),
-            _ => self.called(a, out, letter, numbers, length),
+    // Replays a line on an arena, with an output for the listings, and answers whether it came out right.
+    pub fn line(&mut self, a: &mut [u64], out: &mut [u64], line: &Line) -> bool {
+        match line.letter {
+            b'#' | b't' => true,
+            b'+' => self.entry(out, line),
+            _ => self.call(a, out, line),
         }
     }
 }

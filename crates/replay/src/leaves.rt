@@ -1,7 +1,7 @@
 //! The answers on `index_from_hash` and on the sparse array, each compared with what `segments` and `sparse_array` answer.
-use crate::score::count;
+use answers::Line;
 use segments::Index;
-use sparse_array::{Changed, Found};
+use sparse_array::Refused;
 
 // What was replayed so far: the bitmap of the array, and which of its words the next line shows.
 #[derive(Clone, Copy)]
@@ -11,40 +11,26 @@ pub struct Tally {
     pub indexes: u64,
 }
 
-// The tally after a line, and whether the line came out right.
-#[derive(Clone, Copy)]
-pub struct Seen {
-    pub tally: Tally,
-    pub right: bool,
-}
-
 // An answer that may be missing, as the stored answers write it: 1 and the answer, or two zeros. A refusal, which the
 // crate has not, is 2.
-#[derive(Clone, Copy)]
-struct Maybe {
-    there: u64,
-    value: u64,
-}
+#[derive(Clone, Copy, PartialEq, Eq)]
+struct Written(u64, u64);
 
-fn of_found(f: Found) -> Maybe {
-    match f {
-        Found::Word(word) => Maybe {
-            there: 1,
-            value: word,
-        },
-        Found::Nothing => Maybe { there: 0, value: 0 },
-        Found::Refused => Maybe { there: 2, value: 0 },
+impl Written {
+    fn read(answer: Result<Option<u64>, Refused>) -> Self {
+        match answer {
+            Ok(Some(word)) => Written(1, word),
+            Ok(None) => Written(0, 0),
+            Err(Refused) => Written(2, 0),
+        }
     }
-}
 
-fn of_index(i: Index) -> Maybe {
-    match i {
-        Index::At(segment) => Maybe {
-            there: 1,
-            value: segment,
-        },
-        Index::Exhausted => Maybe { there: 0, value: 0 },
-        Index::NoSuchDegree => Maybe { there: 2, value: 0 },
+    fn index(answer: Index) -> Self {
+        match answer {
+            Index::At(segment) => Written(1, segment),
+            Index::Exhausted => Written(0, 0),
+            Index::NoSuchDegree => Written(2, 0),
+        }
     }
 }
 
@@ -57,104 +43,74 @@ impl Tally {
         }
     }
 
-    fn seen(self, right: bool) -> Seen {
-        Seen {
-            tally: self,
-            right: right,
-        }
-    }
-
-    // What a call that reads answered, and what it should have.
-    fn read(self, got: Maybe, there: u64, value: u64) -> Seen {
-        self.seen(got.there == there && got.value == value)
-    }
-
-    fn index(mut self, got: Maybe, there: u64, value: u64) -> Seen {
-        self.indexes = count(self.indexes);
-        self.read(got, there, value)
+    fn index(&mut self, got: Index, answer: Written) -> bool {
+        self.indexes = self.indexes.saturating_add(1);
+        Written::index(got) == answer
     }
 
     // The array that a call left, and the bitmap and size that it should have. Its words stand on the next lines.
-    fn changed(mut self, changed: Changed, bitmap: u64, size: u64) -> Seen {
+    fn changed(&mut self, changed: Result<u64, Refused>, bitmap: u64, size: u64) -> bool {
         self.place = 0;
-        match changed {
-            Changed::Now(now) => {
-                self.bitmap = now;
-                self.seen(now == bitmap && sparse_array::size(now) as u64 == size)
-            }
-            Changed::Refused => self.seen(false),
-        }
+        let Ok(now) = changed else {
+            return false;
+        };
+        self.bitmap = now;
+        now == bitmap && sparse_array::size(now) as u64 == size
     }
 
     // A word of the array as it is packed.
-    fn word(mut self, words: &[u64], word: u64) -> Seen {
-        let at = self.place;
-        if words.len() <= at {
-            return self.seen(false);
-        }
-        self.place = at + 1;
-        self.seen(words[at] == word)
+    fn word(&mut self, words: &[u64], word: u64) -> bool {
+        let Some(packed) = words.get(self.place) else {
+            return false;
+        };
+        self.place += 1;
+        *packed == word
     }
 
     // A new array: with an empty bitmap no word of the old one counts.
-    fn begun(mut self) -> Seen {
+    fn begin(&mut self) -> bool {
         self.bitmap = 0;
         self.place = 0;
-        self.seen(true)
-    }
-
-    // A call that reads the array.
-    fn reads(self, words: &[u64], letter: u8, numbers: [u64; 8]) -> Seen {
-        let bitmap = self.bitmap;
-        match letter {
-            b'o' => self.read(
-                of_found(sparse_array::get(bitmap, words, numbers[0])),
-                numbers[1],
-                numbers[2],
-            ),
-            b'h' => self.read(
-                of_found(sparse_array::first(bitmap, words)),
-                numbers[0],
-                numbers[1],
-            ),
-            b'q' => self.read(
-                of_found(sparse_array::pop(bitmap, words)),
-                numbers[0],
-                numbers[1],
-            ),
-            _ => self.seen(false),
-        }
+        true
     }
 
     // A line that reads or writes the array, once every word that the last call left has been shown.
-    fn on_array(self, words: &mut [u64], letter: u8, numbers: [u64; 8]) -> Seen {
+    fn on_array(&mut self, words: &mut [u64], line: &Line) -> bool {
         let bitmap = self.bitmap;
         if self.place != sparse_array::size(bitmap) {
-            return self.seen(false);
+            return false;
         }
-        match letter {
+        let [first, second, third, fourth, _, _, _, _] = line.numbers;
+        match line.letter {
             b'p' => {
-                let changed = sparse_array::set(bitmap, words, numbers[0], numbers[1]);
-                self.changed(changed, numbers[2], numbers[3])
+                let changed = sparse_array::set(bitmap, words, first, second);
+                self.changed(changed, third, fourth)
             }
             b'k' => {
-                let changed = sparse_array::remove(bitmap, words, numbers[0]);
-                self.changed(changed, numbers[1], numbers[2])
+                let changed = sparse_array::remove(bitmap, words, first);
+                self.changed(changed, second, third)
             }
-            b'a' => self.begun(),
-            _ => self.reads(words, letter, numbers),
+            b'a' => self.begin(),
+            b'o' => {
+                Written::read(sparse_array::get(bitmap, words, first)) == Written(second, third)
+            }
+            b'h' => Written::read(sparse_array::first(bitmap, words)) == Written(first, second),
+            b'q' => Written::read(sparse_array::pop(bitmap, words)) == Written(first, second),
+            _ => false,
         }
     }
 
-    pub fn line(self, words: &mut [u64], letter: u8, numbers: [u64; 8]) -> Seen {
-        match letter {
-            b'#' | b't' => self.seen(true),
+    // Replays a line, and answers whether it came out right.
+    pub fn line(&mut self, words: &mut [u64], line: &Line) -> bool {
+        let numbers = line.numbers;
+        match line.letter {
+            b'#' | b't' => true,
             b'+' => self.word(words, numbers[0]),
-            b'x' => {
-                let got = of_index(segments::index_from_hash(numbers[0], numbers[1], numbers[2]));
-                self.index(got, numbers[3], numbers[4])
-            }
-            _ => self.on_array(words, letter, numbers),
+            b'x' => self.index(
+                segments::index_from_hash(numbers[0], numbers[1], numbers[2]),
+                Written(numbers[3], numbers[4]),
+            ),
+            _ => self.on_array(words, line),
         }
     }
 }

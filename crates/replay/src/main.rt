@@ -24,31 +24,12 @@ enum File {
     Editions(editions::Tally),
 }
 
-// The file after a line, and whether the line came out right.
-#[derive(Clone, Copy)]
-struct After {
-    file: File,
-    right: bool,
-}
-
-fn take_line(file: File, words: &mut [u64], out: &mut [u64], line: Line) -> After {
-    let numbers = line.numbers;
-    match file {
-        File::Leaves(tally) => {
-            let seen = tally.line(words, line.letter, numbers);
-            let next = seen.tally;
-            After {
-                file: File::Leaves(next),
-                right: seen.right,
-            }
-        }
-        File::Editions(tally) => {
-            let seen = tally.line(words, out, line.letter, numbers, line.count);
-            let next = seen.tally;
-            After {
-                file: File::Editions(next),
-                right: seen.right,
-            }
+impl File {
+    // Replays a line, and answers whether it came out right.
+    fn line(&mut self, words: &mut [u64], out: &mut [u64], line: &Line) -> bool {
+        match self {
+            File::Leaves(tally) => tally.line(words, line),
+            File::Editions(tally) => tally.line(words, out, line),
         }
     }
 }
@@ -67,18 +48,16 @@ fn replay(
     text: &[u8],
     words: &mut [u64],
     out: &mut [u64],
-    first: File,
+    mut file: File,
 ) -> io::Result<Score> {
-    let mut file = first;
     let mut score = Score::new();
     let mut at = 0;
+    // A while: the line that was read says where the next one begins, so no range is known beforehand.
     while at < text.len() {
         let line = answers::read_line(text, at);
         at = line.next;
-        let numbers = line.numbers;
-        let after = take_line(file, words, out, line);
-        file = after.file;
-        score = score.line(line.letter, numbers[0], after.right);
+        let right = file.line(words, out, &line);
+        score.line(&line, right);
     }
     show(rt, file, score)?;
     Ok(score)
@@ -91,6 +70,7 @@ fn read(rt: &impl Files, name: &str, text: &mut [u8]) -> io::Result<usize>
 {
     let mut file = fs::open(rt, name)?;
     let mut length = 0;
+    // A while: each read says how many bytes it brought, so no range is known beforehand.
     while length < text.len() {
         let n = file.read(&mut text[length..])?;
         if n == 0 {

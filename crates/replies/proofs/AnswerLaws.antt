@@ -1,20 +1,21 @@
 -- A refusal's number is not 0, so an answer tells whether the call was done, and its values. And the cases of a header, of a slot and
 -- of what a writer of cells leaves.
 use Rattle.layout.specs.declared.Shape.{Shape}
-use Rattle.layout.specs.declared.Heading.{Heading}
-use Rattle.layout.specs.declared.Heading.TheVariants.{Right, Wrong}
-use Rattle.cells.specs.declared.Slot.{Slot}
-use Rattle.cells.specs.declared.Slot.TheVariants.{At, NoneFree}
 use Rattle.cells.specs.Mirrors.{Wrote}
 use Rattle.replies.specs.Outcomes.{Outcome, leaves, on_header, on_slot, on_wrote}
 use Prim.Native.Nat.{ℕ, ◌<◌}
-use mathlib.Core.Path.{◌≡◌, ap}
-use mathlib.Core.List.{List}
+use mathlib.Core.Path.{◌≡◌, refl, sym, ap, ◌∙◌}
+use mathlib.Core.List.{List, [], ◌∷◌}
+use mathlib.Core.Bool.{Bool, true, false}
+use lib.ListN.{get_or}
+use Rattle.replies.specs.declared.Updated.{Updated}
+use Rattle.replies.specs.declared.CellCounts.{CellCounts}
 use native.Mathlib.Omega.{arith}
 use borrow.Author.Tests.{eq-eqb, ne_eqb}
 use Rattle.replies.specs.declared.Refusal.{Refusal}
 use Rattle.replies.specs.declared.Refusal.TheVariants.{BadDegree, BadSizes, SliceTooShort, Damaged, NoSuchEdition, Absent, NoSlot, NoBranchCells, NoEntryCells, OutputTooShort, BeyondTheEnd, WorkTooShort}
-use Rattle.replies.specs.Answers.{Answer, answer, number_of, refused, done, done_taking}
+use Rattle.replies.specs.Answers.{Answer, answer, number_of, refused, done, done_taking, no_values, one_value, truth_value, update_values, cell_values, answered, unit_answer, number_answer, truth_answer, update_answer, cells_answer}
+use Rattle.std.specs.Prelude.{Option, Some, None, Result, Ok, Err}
 
 number_some : (r : Refusal) → 0 < number_of r
 number_some BadDegree = omega arith
@@ -39,21 +40,74 @@ not_done r s branches entries q = refused_not_done r 0 0 (ap (λ (w : Answer). a
 pub done_value : (x y v w : ℕ) → done x y ≡ done v w → x ≡ v
 done_value x y v w e = ap (λ (u : Answer). u.a) e
 
+-- FLATTENING LOSES NOTHING: no two answers of a call have the same number and the same values.
+-- the refusal of a number from 1 to 12; for 0 and the further ones it is any
+abbrev refusal_of : ℕ → Refusal
+refusal_of n =
+    get_or
+    (BadDegree ∷ BadDegree ∷ BadSizes ∷ SliceTooShort ∷ Damaged ∷ NoSuchEdition ∷ Absent ∷ NoSlot ∷ NoBranchCells ∷ NoEntryCells
+    ∷ OutputTooShort ∷ BeyondTheEnd ∷ WorkTooShort ∷ []) n BadDegree
+
+refusal_back : (r : Refusal) → refusal_of (number_of r) ≡ r
+refusal_back BadDegree = refl
+refusal_back BadSizes = refl
+refusal_back SliceTooShort = refl
+refusal_back Damaged = refl
+refusal_back NoSuchEdition = refl
+refusal_back Absent = refl
+refusal_back NoSlot = refl
+refusal_back NoBranchCells = refl
+refusal_back NoEntryCells = refl
+refusal_back OutputTooShort = refl
+refusal_back BeyondTheEnd = refl
+refusal_back WorkTooShort = refl
+
+pub refusal_once : (r s : Refusal) → number_of r ≡ number_of s → r ≡ s
+refusal_once r s e = sym (refusal_back r) ∙ ap refusal_of e ∙ refusal_back s
+
+module _ {T : Type 0} (values : T → Answer) (done_is : (x : T) → (values x).number ≡ 0) (one : (x y : T) → values x ≡ values y → x ≡ y) where
+  pub answered_once : (r s : Result T Refusal) → answered values r ≡ answered values s → r ≡ s
+  answered_once (Ok x) (Ok y) e = ap Ok (one x y e)
+  answered_once (Ok x) (Err s) e = absurd (omega (arith, number_some s, done_is x, ap (λ (w : Answer). w.number) e))
+  answered_once (Err r) (Ok y) e = absurd (omega (arith, number_some r, done_is y, ap (λ (w : Answer). w.number) e))
+  answered_once (Err r) (Err s) e = ap Err (refusal_once r s (ap (λ (w : Answer). w.number) e))
+
+pub unit_once : (r s : Result (Unit {0}) Refusal) → unit_answer r ≡ unit_answer s → r ≡ s
+unit_once = answered_once no_values (λ x. refl) (λ x y e. refl)
+
+pub number_once : (r s : Result ℕ Refusal) → number_answer r ≡ number_answer s → r ≡ s
+number_once = answered_once one_value (λ x. refl) (λ x y e. ap (λ (w : Answer). w.a) e)
+
+one_truth : (x y : Bool) → truth_value x ≡ truth_value y → x ≡ y
+one_truth true true e = refl
+one_truth false false e = refl
+one_truth true false e = absurd (omega (arith, ap (λ (w : Answer). w.a) e))
+one_truth false true e = absurd (omega (arith, ap (λ (w : Answer). w.a) e))
+
+pub truth_once : (r s : Result Bool Refusal) → truth_answer r ≡ truth_answer s → r ≡ s
+truth_once = answered_once truth_value (λ x. refl) one_truth
+
+pub update_once : (r s : Result Updated Refusal) → update_answer r ≡ update_answer s → r ≡ s
+update_once = answered_once update_values (λ x. refl) (λ x y e i. record { edition = (e i).a; branches = (e i).b; entries = (e i).c })
+
+pub cells_once : (r s : Result CellCounts Refusal) → cells_answer r ≡ cells_answer s → r ≡ s
+cells_once = answered_once cell_values (λ x. refl) (λ x y e i. record { branches = (e i).a; entries = (e i).b })
+
 -- THE CASES OF A HEADER
-pub header_Right : {A : Type 0} (y : Heading) (x : A) (f : Shape → A) (z : Shape) → y ≡ Right z → on_header y x f ≡ f z
+pub header_Right : {A : Type 0} (y : Option Shape) (x : A) (f : Shape → A) (z : Shape) → y ≡ Some z → on_header y x f ≡ f z
 unfolding on_header
 header_Right y x f z e = rw e
 
-pub header_Wrong : {A : Type 0} (y : Heading) (x : A) (f : Shape → A) → y ≡ Wrong → on_header y x f ≡ x
+pub header_Wrong : {A : Type 0} (y : Option Shape) (x : A) (f : Shape → A) → y ≡ None → on_header y x f ≡ x
 unfolding on_header
 header_Wrong y x f e = rw e
 
 -- THE CASES OF A SLOT
-pub slot_at : (y : Slot) (x : Outcome) (f : ℕ → Outcome) (s : ℕ) → y ≡ At s → on_slot y x f ≡ f s
+pub slot_at : (y : Option ℕ) (x : Outcome) (f : ℕ → Outcome) (s : ℕ) → y ≡ Some s → on_slot y x f ≡ f s
 unfolding on_slot
 slot_at y x f s e = rw e
 
-pub slot_none : (y : Slot) (x : Outcome) (f : ℕ → Outcome) → y ≡ NoneFree → on_slot y x f ≡ x
+pub slot_none : (y : Option ℕ) (x : Outcome) (f : ℕ → Outcome) → y ≡ None → on_slot y x f ≡ x
 unfolding on_slot
 slot_none y x f e = rw e
 

@@ -10,13 +10,9 @@ use lib.Dec.{eqb}
 use borrow.Author.Tests.{eqb-true}
 use Rattle.cases.proofs.Cases.{split}
 use Rattle.layout.specs.declared.Shape.{Shape}
-use Rattle.layout.specs.declared.Heading.{Heading}
-use Rattle.layout.specs.declared.Heading.TheVariants.{Right, Wrong}
 use Rattle.layout.specs.Header.{Header, header_of}
 use Rattle.layout.specs.Columns.{word_of_slot}
 use Rattle.layout.proofs.HeaderLaws.{Header-says, Header-once}
-use Rattle.cells.specs.declared.Slot.{Slot}
-use Rattle.cells.specs.declared.Slot.TheVariants.{At, NoneFree}
 use Rattle.cells.specs.Slots.{held_slot, free_slot}
 use Rattle.cells.proofs.SlotLaws.{held_says, held_is, free_slot-Lowest, free_slot_none}
 use Rattle.replies.specs.declared.Refusal.{Refusal}
@@ -24,6 +20,7 @@ use Rattle.replies.specs.declared.Refusal.TheVariants as Why
 use Rattle.replies.specs.Answers.{Answer, number_of, refused, done, done_taking}
 use Rattle.replies.specs.Outcomes.{Outcome, leaves, on_header}
 use Rattle.replies.proofs.AnswerLaws.{header_Right, header_Wrong}
+use Rattle.std.specs.Prelude.{Option, Some, None}
 
 -- A TABLE says of every number when it is given: a row for each that a call may give, and no other is given.
 abbrev pub Row : ℕ → Type 0 → (ℕ → Type 0) → ℕ → Type 0
@@ -95,8 +92,8 @@ module _ {A : Type 0} (a b : List ℕ) (see : A → Outcome) (When : Shape → �
       → ((z : Shape) → Header a z → Numbered b (When z) (see (f z))) → HeaderNumbered a b When (see (on_header (header_of a) x f))
   right_Numbered wrong no_4 numbers = by (header_of a) refl
     where
-      by : (y : Heading) → header_of a ≡ y → HeaderNumbered a b When (see (on_header (header_of a) x f))
-      by Wrong e =
+      by : (y : Option Shape) → header_of a ≡ y → HeaderNumbered a b When (see (on_header (header_of a) x f))
+      by None e =
           let d : Damaged a = λ z h. let q = (Header-says a z).1 h in let m : ◌≡◌ {A = ℕ} 0 1 = cc in omega arith in
           let G : Gives b (see (on_header (header_of a) x f)) 4 = Gives-refusal Why.Damaged (ap see (header_Wrong _ x f e) ∙ wrong) in
           record {
@@ -105,7 +102,7 @@ module _ {A : Type 0} (a b : List ℕ) (see : A → Outcome) (When : Shape → �
             exactly = λ z h. absurd (d z h);
             refusal = λ ne. G.unaltered (λ q. omega arith);
           }
-      by (Right z) e =
+      by (Some z) e =
           let h = (Header-says a z).0 e in
           let N : Numbered b (When z) (see (on_header (header_of a) x f)) = rw (header_Right (header_of a) x f z e) (numbers z h) in
           record {
@@ -153,9 +150,9 @@ abbrev pub AllHeld : Shape → List ℕ → Type 0
 AllHeld z a = (i : ℕ) → i < z.slots → word_of_slot z a i 0 ≡ 1
 
 module _ {X : Type 0} (z : Shape) (a : List ℕ) where
-  pub by_free : (free_slot z a ≡ NoneFree → AllHeld z a → X) → ((s : ℕ) → free_slot z a ≡ At s → (AllHeld z a → ⊥) → X) → X
+  pub by_free : (free_slot z a ≡ None → AllHeld z a → X) → ((s : ℕ) → free_slot z a ≡ Some s → (AllHeld z a → ⊥) → X) → X
   by_free none at = by (free_slot z a) refl
     where
-      by : (y : Slot) → free_slot z a ≡ y → X
-      by NoneFree e = none e (free_slot_none z a e)
-      by (At s) e = let w = free_slot-Lowest z a s e in at s e (λ all. w.not_held (all s w.slot))
+      by : (y : Option ℕ) → free_slot z a ≡ y → X
+      by None e = none e (free_slot_none z a e)
+      by (Some s) e = let w = free_slot-Lowest z a s e in at s e (λ all. w.not_held (all s w.slot))

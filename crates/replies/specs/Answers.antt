@@ -1,25 +1,11 @@
 -- Document 01, "Answer numbers": the number and the values of each answer. "A refusal returns zeros beside its number."
-use Rattle.std.specs.Prelude.{ℕ}
+use Rattle.std.specs.Prelude.{ℕ, Bool, cond, Result, Ok, Err}
+use Rattle.layout.specs.declared.Misfit.{Misfit}
+use Rattle.layout.specs.declared.Misfit.TheVariants as L
 use Rattle.replies.specs.declared.Refusal.{Refusal}
 use Rattle.replies.specs.declared.Refusal.TheVariants.{BadDegree, BadSizes, SliceTooShort, Damaged, NoSuchEdition, Absent, NoSlot, NoBranchCells, NoEntryCells, OutputTooShort, BeyondTheEnd, WorkTooShort}
-use Rattle.replies.specs.declared.Formatted.{Formatted}
-use Rattle.replies.specs.declared.Formatted.TheVariants as F
-use Rattle.replies.specs.declared.Made.{Made}
-use Rattle.replies.specs.declared.Made.TheVariants as M
 use Rattle.replies.specs.declared.Updated.{Updated}
-use Rattle.replies.specs.declared.Updated.TheVariants as W
-use Rattle.replies.specs.declared.Counted.{Counted}
-use Rattle.replies.specs.declared.Counted.TheVariants as C
-use Rattle.replies.specs.declared.Found.{Found}
-use Rattle.replies.specs.declared.Found.TheVariants as D
-use Rattle.replies.specs.declared.Compared.{Compared}
-use Rattle.replies.specs.declared.Compared.TheVariants as E
-use Rattle.replies.specs.declared.InUse.{InUse}
-use Rattle.replies.specs.declared.InUse.TheVariants as U
-use Rattle.replies.specs.declared.Dropped.{Dropped}
-use Rattle.replies.specs.declared.Dropped.TheVariants as G
-use Rattle.replies.specs.declared.Checked.{Checked}
-use Rattle.replies.specs.declared.Checked.TheVariants as K
+use Rattle.replies.specs.declared.CellCounts.{CellCounts}
 
 pub record Answer : Type 0 where
   pub number : ℕ
@@ -45,6 +31,11 @@ number_of OutputTooShort = 10
 number_of BeyondTheEnd = 11
 number_of WorkTooShort = 12
 
+-- 1 and 2: why no arena can be made
+abbrev pub unfit : Misfit → Refusal
+unfit L.BadDegree = BadDegree
+unfit L.BadSizes = BadSizes
+
 abbrev pub refused : Refusal → Answer
 refused r = answer (number_of r) 0 0 0
 
@@ -55,40 +46,46 @@ done x y = answer 0 x y 0
 abbrev pub done_taking : ℕ → ℕ → ℕ → Answer
 done_taking e b n = answer 0 e b n
 
-abbrev pub formatted : Formatted → Answer
-formatted F.Done = done 0 0
-formatted (F.Refused r) = refused r
+-- WHAT A CALL GIVES where it is done: nothing, one number, "1 for equal and 0 for not", an edition and the cells taken beside it, or
+-- how many cells of each kind.
+abbrev pub no_values : Unit {0} → Answer
+no_values u = done 0 0
 
-abbrev pub made : Made → Answer
-made (M.Edition e) = done e 0
-made (M.Refused r) = refused r
+abbrev pub one_value : ℕ → Answer
+one_value n = done n 0
 
-abbrev pub updated : Updated → Answer
-updated (W.Edition e b n) = done_taking e b n
-updated (W.Refused r) = refused r
+abbrev pub truth_value : Bool → Answer
+truth_value b = done (cond b 1 0) 0
 
-abbrev pub counted : Counted → Answer
-counted (C.Entries n) = done n 0
-counted (C.Refused r) = refused r
+abbrev pub update_values : Updated → Answer
+update_values u = done_taking u.edition u.branches u.entries
 
-abbrev pub in_use_answer : InUse → Answer
-in_use_answer (U.Cells b n) = done b n
-in_use_answer (U.Refused r) = refused r
+abbrev pub cell_values : CellCounts → Answer
+cell_values n = done n.branches n.entries
 
-abbrev pub dropped : Dropped → Answer
-dropped (G.Freed b n) = done b n
-dropped (G.Refused r) = refused r
+-- the answer of a call, done or refused
+abbrev pub answered : {T : Type 0} → (T → Answer) → Result T Refusal → Answer
+answered values (Ok x) = values x
+answered values (Err r) = refused r
 
-abbrev pub checked : Checked → Answer
-checked K.Sound = done 0 0
-checked (K.Refused r) = refused r
+abbrev pub unit_answer : Result (Unit {0}) Refusal → Answer
+unit_answer = answered no_values
 
-abbrev pub found : Found → Answer
-found (D.Value v) = done v 0
-found (D.Refused r) = refused r
+abbrev pub number_answer : Result ℕ Refusal → Answer
+number_answer = answered one_value
 
--- a comparison that is done answers 1 for equal and 0 for not
-abbrev pub compared : Compared → Answer
-compared E.Equal = done 1 0
-compared E.Different = done 0 0
-compared (E.Refused r) = refused r
+abbrev pub truth_answer : Result Bool Refusal → Answer
+truth_answer = answered truth_value
+
+abbrev pub update_answer : Result Updated Refusal → Answer
+update_answer = answered update_values
+
+abbrev pub cells_answer : Result CellCounts Refusal → Answer
+cells_answer = answered cell_values
+
+-- an update that is done, and a call that is done and tells of cells
+abbrev pub took : ℕ → ℕ → ℕ → Result Updated Refusal
+took e b n = Ok (record { edition = e; branches = b; entries = n })
+
+abbrev pub cell_counts : ℕ → ℕ → Result CellCounts Refusal
+cell_counts b n = Ok (record { branches = b; entries = n })

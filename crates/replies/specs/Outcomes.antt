@@ -1,11 +1,7 @@
 -- What a call leaves: its answer and the words afterwards. Document 01, "Answer numbers": every call but format tests the header
 -- first.
-use Rattle.std.specs.Prelude.{cond, List, eqb, ℕ}
+use Rattle.std.specs.Prelude.{cond, List, eqb, ℕ, Option, Some, None}
 use Rattle.layout.specs.declared.Shape.{Shape}
-use Rattle.layout.specs.declared.Heading.{Heading}
-use Rattle.layout.specs.declared.Heading.TheVariants.{Right, Wrong}
-use Rattle.cells.specs.declared.Slot.{Slot}
-use Rattle.cells.specs.declared.Slot.TheVariants.{At, NoneFree}
 use Rattle.cells.specs.Mirrors.{Wrote}
 use Rattle.replies.specs.declared.Refusal.{Refusal}
 use Rattle.replies.specs.Answers.{Answer, refused}
@@ -19,14 +15,14 @@ abbrev pub leaves : Answer → List ℕ → Outcome
 leaves r b = record { answer = r; words = b }
 
 -- 4 first: "words 0 to 7 wrong, or the slice shorter than 12 words or the total"
-unfoldable pub on_header : {A : Type 0} → Heading → A → (Shape → A) → A
-on_header Wrong x f = x
-on_header (Right z) x f = f z
+unfoldable pub on_header : {A : Type 0} → Option Shape → A → (Shape → A) → A
+on_header None x f = x
+on_header (Some z) x f = f z
 
 -- 7: "a new edition wanted, all S held"
-unfoldable pub on_slot : Slot → Outcome → (ℕ → Outcome) → Outcome
-on_slot NoneFree x f = x
-on_slot (At s) x f = f s
+unfoldable pub on_slot : Option ℕ → Outcome → (ℕ → Outcome) → Outcome
+on_slot None x f = x
+on_slot (Some s) x f = f s
 
 -- after a writer of cells: where no cell could be taken, what was written stands
 unfoldable pub on_wrote : Wrote → Refusal → (ℕ → List ℕ → Outcome) → Outcome

@@ -5,10 +5,12 @@
 #![tactic(auto)]
 
 ghost use Rattle.std.specs.Prelude.{◌≡◌};
-ghost use Rattle.replies.specs.Answers.{number_of};
+ghost use Rattle.replies.specs.Answers.{number_of, unfit};
+
+use layout::Misfit;
 
 // Why a call is refused, with document 01's words for its numbers 1 to 12.
-#[derive(Clone, Copy)]
+#[derive(Clone, Copy, Debug, PartialEq, Eq)]
 pub enum Refusal {
     BadDegree,
     BadSizes,
@@ -46,65 +48,28 @@ impl Refusal {
     }
 }
 
-#[derive(Clone, Copy)]
-pub enum Formatted {
-    Done,
-    Refused(Refusal),
+impl From<Misfit> for Refusal {
+    ghost from_gives = { λ why refusal. refusal ≡ unfit why };
+
+    fn from(why: Misfit) -> Refusal {
+        match why {
+            Misfit::BadDegree => Refusal::BadDegree,
+            Misfit::BadSizes => Refusal::BadSizes,
+        }
+    }
 }
 
-// A call that puts an edition in a slot answers the slot's number.
-#[derive(Clone, Copy)]
-pub enum Made {
-    Edition(u64),
-    Refused(Refusal),
+// What an update answers: the slot that the new edition stands in, and how many cells of each kind it took.
+#[derive(Clone, Copy, Debug, PartialEq, Eq)]
+pub struct Updated {
+    pub edition: u64,
+    pub branches: u64,
+    pub entries: u64,
 }
 
-// An update puts an edition in a slot, and takes cells of each kind.
-#[derive(Clone, Copy)]
-pub enum Updated {
-    Edition {
-        edition: u64,
-        branches: u64,
-        entries: u64,
-    },
-    Refused(Refusal),
-}
-
-#[derive(Clone, Copy)]
-pub enum Counted {
-    Entries(u64),
-    Refused(Refusal),
-}
-
-#[derive(Clone, Copy)]
-pub enum Found {
-    Value(u64),
-    Refused(Refusal),
-}
-
-#[derive(Clone, Copy)]
-pub enum Compared {
-    Equal,
-    Different,
-    Refused(Refusal),
-}
-
-#[derive(Clone, Copy)]
-pub enum InUse {
-    Cells { branches: u64, entries: u64 },
-    Refused(Refusal),
-}
-
-// A drop answers how many cells of each kind it freed.
-#[derive(Clone, Copy)]
-pub enum Dropped {
-    Freed { branches: u64, entries: u64 },
-    Refused(Refusal),
-}
-
-// What a check answers: document 01's number is 0 for a sound arena.
-#[derive(Clone, Copy)]
-pub enum Checked {
-    Sound,
-    Refused(Refusal),
+// How many cells of each kind: those in use, or those that a drop freed.
+#[derive(Clone, Copy, Debug, PartialEq, Eq)]
+pub struct CellCounts {
+    pub branches: u64,
+    pub entries: u64,
 }

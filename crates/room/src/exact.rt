@@ -8,7 +8,7 @@ use std::io;
 // Step n in an arena of so many cells. The largest has 37 branch cells, 7 entry cells and 8 slots.
 fn within(rt: &impl Print, label: &[u8], n: u64, branches: u64, entries: u64) -> io::Result<()> {
     let mut a = [0u64; 781];
-    shelf::format(&mut a, 16, branches, entries, 8);
+    let _ = shelf::format(&mut a, 16, branches, entries, 8);
     steps::before(&mut a, n);
     let mut copy = [0u64; 781];
     lent::copy(&a, &mut copy);
@@ -22,10 +22,7 @@ fn within(rt: &impl Print, label: &[u8], n: u64, branches: u64, entries: u64) ->
 fn around(rt: &impl Print, n: u64, branches: u64, entries: u64) -> io::Result<()>
     requires { (1 ≤ branches) × (1 ≤ entries) }
 {
-    print::decimal(rt, b"  K", n)?;
-    print::decimal(rt, b" needs ", branches)?;
-    print::decimal(rt, b" ", entries)?;
-    print::say(rt, b"\n")?;
+    println!(rt; "  K{n} needs {branches} {entries}")?;
     within(rt, b"    these", n, branches, entries)?;
     within(rt, b"    a branch cell fewer", n, branches - 1, entries)?;
     within(rt, b"    an entry cell fewer", n, branches, entries - 1)?;

@@ -12,8 +12,8 @@ fn both(
     hash: u64,
     key: u64,
 ) -> io::Result<()> {
-    let inserted = answer::of_updated(shelf::insert(a, edition, hash, key, 1));
-    let changed = answer::of_updated(shelf::change(a, edition, hash, key, 1));
+    let inserted = answer::number(shelf::insert(a, edition, hash, key, 1));
+    let changed = answer::number(shelf::change(a, edition, hash, key, 1));
     print::decimal(rt, label, inserted)?;
     print::decimal(rt, b", change ", changed)
 }
@@ -33,8 +33,8 @@ fn no_slot(rt: &impl Print, a: &mut [u64]) -> io::Result<()> {
 }
 
 fn small(rt: &impl Print, a: &mut [u64]) -> io::Result<()> {
-    shelf::format(a, 16, 1, 1, 3);
-    shelf::new_edition(a);
+    let _ = shelf::format(a, 16, 1, 1, 3);
+    let _ = shelf::new_edition(a);
     answer::say_updated(rt, shelf::insert(a, 0, 0x26, 1, 10))?;
     print::say(rt, b"\n")
 }
@@ -55,7 +55,7 @@ fn when_full(rt: &impl Print, a: &mut [u64]) -> io::Result<()> {
     print::decimal(
         rt,
         b"  a share takes the last slot: ",
-        answer::of_made(shelf::share(a, 1)),
+        answer::number(shelf::share(a, 1)),
     )?;
     print::say(rt, b"\n")?;
     lent::copy(a, &mut copy);

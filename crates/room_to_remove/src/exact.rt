@@ -2,15 +2,15 @@
 //! of a kind that it takes. What is refused changes no word.
 ghost use Rattle.std.specs.Prelude.{◌≤◌};
 
+use shown::entries::Entry;
 use shown::{answer, entries, lent, steps};
 use std::io;
 
-// An entry that is taken out of an edition, behind so many steps of the table; and, where `longer` says so, behind an insert
-// that puts key 6 in front of the chain of K5.
-#[derive(Clone, Copy)]
+// An entry that is taken out of an edition, behind so many steps of the table and, where there is one, behind one more insert.
+#[derive(Clone, Copy, Debug)]
 struct Row {
     steps: u64,
-    longer: bool,
+    more: Option<Entry>,
     edition: u64,
     hash: u64,
     key: u64,
@@ -19,38 +19,37 @@ struct Row {
 // Out of the edition of the last step.
 fn behind(steps: u64, hash: u64, key: u64) -> Row {
     Row {
-        steps: steps,
-        longer: false,
+        steps,
+        more: None,
         edition: steps,
-        hash: hash,
-        key: key,
+        hash,
+        key,
     }
 }
 
-// Out of the edition with key 6.
+// Out of the edition with key 6, which stands in front of the chain of K5.
 fn longer(key: u64) -> Row {
     Row {
         steps: 5,
-        longer: true,
+        more: Some(entries::an_entry(entries::CHAIN, 6, 60)),
         edition: 6,
         hash: entries::CHAIN,
-        key: key,
+        key,
     }
 }
 
 fn prepare(a: &mut [u64], row: Row) {
     let last = row.steps;
     steps::before(a, answer::count(last));
-    if !row.longer {
-        return;
+    if let Some(e) = row.more {
+        let _ = shelf::insert(a, last, e.hash, e.key, e.value);
     }
-    shelf::insert(a, last, entries::CHAIN, 6, 60);
 }
 
 // The largest arena has 53 branch cells, 8 entry cells and 8 slots.
 fn within(rt: &impl Print, label: &[u8], row: Row, branches: u64, entries: u64) -> io::Result<()> {
     let mut a = [0u64; 1091];
-    shelf::format(&mut a, 16, branches, entries, 8);
+    let _ = shelf::format(&mut a, 16, branches, entries, 8);
     prepare(&mut a, row);
     let mut copy = [0u64; 1091];
     lent::copy(&a, &mut copy);
@@ -68,9 +67,7 @@ fn with_these(
     entries: u64,
 ) -> io::Result<()> {
     print::say(rt, label)?;
-    print::decimal(rt, b" needs ", branches)?;
-    print::decimal(rt, b" ", entries)?;
-    print::say(rt, b"\n")?;
+    println!(rt; " needs {branches} {entries}")?;
     within(rt, b"    these", row, branches, entries)
 }
 

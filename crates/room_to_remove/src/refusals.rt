@@ -14,7 +14,7 @@ fn remove(
     hash: u64,
     key: u64,
 ) -> io::Result<()> {
-    let number = answer::of_updated(shelf::remove(a, edition, hash, key));
+    let number = answer::number(shelf::remove(a, edition, hash, key));
     print::decimal(rt, label, number)
 }
 
@@ -84,7 +84,7 @@ pub fn show(rt: &impl Print) -> io::Result<()> {
         b"Refusals (degree 16, K1 to K5, all 21 and 5 cells in use, 7 slots)\n",
     )?;
     let mut a = [0u64; WORDS];
-    shelf::format(&mut a, 16, 21, 5, 7);
+    let _ = shelf::format(&mut a, 16, 21, 5, 7);
     steps::before(&mut a, 6);
     with_a_slot(rt, &mut a)?;
     without_a_slot(rt, &mut a)?;

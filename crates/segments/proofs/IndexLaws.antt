@@ -8,14 +8,15 @@ use native.Mathlib.Omega.{arith}
 use native.Mathlib.Nat.{le_trans, mul-le-mul_right}
 use borrow.Author.Tests.{leb-true, leb-false}
 use Rattle.cases.proofs.Cases.{split}
-use Rattle.segments.specs.declared.DegreeRow.TheVariants.{Found, NotInTable}
 use Rattle.segments.specs.declared.Index.TheVariants.{At, Exhausted, NoSuchDegree}
 use Rattle.segments.specs.Segments.{row, segment, row_of, exhausted, index_in, index_of}
 use Rattle.segments.proofs.TableLaws.{Right, row_Right, depths_cover, below_depths, row_of_in}
+use Rattle.std.specs.Prelude.{None}
+use Rattle.segments.specs.Segments.{found}
 
-module _ (g bits depths last : ℕ) (found : row_of g ≡ Found bits depths last) where
+module _ (g bits depths last : ℕ) (is : row_of g ≡ found bits depths last) where
   pub found_right : Right (row g bits depths last)
-  found_right = row_Right (row g bits depths last) (row_of_in g bits depths last found)
+  found_right = row_Right (row g bits depths last) (row_of_in g bits depths last is)
 
   pub shift_below : (t : ℕ) → t < depths → t * bits < 64
   shift_below t l = (below_depths (row g bits depths last) found_right t).0 l
@@ -35,12 +36,12 @@ module _ (g bits depths last : ℕ) (found : row_of g ≡ Found bits depths last
 
   pub index_at : (h t : ℕ) → t < depths → index_of h t g ≡ At (segment bits t h)
   unfolding index_of index_in
-  index_at h t l = simp (found, not_exhausted t l)
+  index_at h t l = simp (is, not_exhausted t l)
 
   pub index_Exhausted : (h t : ℕ) → depths ≤ t → index_of h t g ≡ Exhausted
   unfolding index_of index_in
-  index_Exhausted h t l = simp (found, is_exhausted t l)
+  index_Exhausted h t l = simp (is, is_exhausted t l)
 
-pub index_no_degree : (h t g : ℕ) → row_of g ≡ NotInTable → index_of h t g ≡ NoSuchDegree
+pub index_no_degree : (h t g : ℕ) → row_of g ≡ None → index_of h t g ≡ NoSuchDegree
 unfolding index_of index_in
 index_no_degree h t g none = simp none

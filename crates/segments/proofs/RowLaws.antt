@@ -6,8 +6,9 @@ use mathlib.Core.Path.{◌≡◌, refl, ap, ◌∙◌, sym}
 use mathlib.Core.Logic.{◌⊎◌, inl, inr}
 use borrow.Author.Tests.{ne_eqb}
 use lib.Count.{count_trailing_zeros}
-use Rattle.segments.specs.declared.DegreeRow.TheVariants.{Found, NotInTable}
 use Rattle.segments.specs.Segments.{table, find, row_of}
+use Rattle.std.specs.Prelude.{None}
+use Rattle.segments.specs.Segments.{found}
 
 -- a shift of 1 by a row's bits is a power of two, and no digit of it is lost
 pub one_shifted : (b : ℕ) → b ≤ 6 → 1 * 2 ^ b % 18446744073709551616 ≡ 2 ^ b
@@ -24,7 +25,7 @@ one_shifted (suc (suc (suc (suc (suc (suc (suc b))))))) l = absurd (omega arith)
 abbrev pub byte_at : ℕ → ℕ → ℕ
 byte_at bytes b = bytes / 2 ^ (8 * b) % 256
 
-pub row_by_bits : (b : ℕ) → (b ≡ 0 → ⊥) → b ≤ 6 → Found b (byte_at 0x0B0D1016204000 b) (byte_at 0x04040401020100 b) ≡ row_of (2 ^ b)
+pub row_by_bits : (b : ℕ) → (b ≡ 0 → ⊥) → b ≤ 6 → found b (byte_at 0x0B0D1016204000 b) (byte_at 0x04040401020100 b) ≡ row_of (2 ^ b)
 unfolding row_of find table
 row_by_bits zero n l = absurd (n refl)
 row_by_bits (suc zero) n l = refl
@@ -44,7 +45,7 @@ other g b k e (inl z) t n l q = n (sym t ∙ sym (ap (count_trailing_zeros 64) q
 other g b k e (inr (inl m)) t n l q = omega (arith, sym t ∙ sym (ap (count_trailing_zeros 64) q) ∙ sym e)
 other g b k e (inr (inr d)) t n l q = d (q ∙ ap (λ (x : ℕ). 2 ^ x) (sym t ∙ sym (ap (count_trailing_zeros 64) q) ∙ sym e))
 
-pub no_row : (g b : ℕ) → b ≡ count_trailing_zeros 64 g → Off g b → NotInTable ≡ row_of g
+pub no_row : (g b : ℕ) → b ≡ count_trailing_zeros 64 g → Off g b → None ≡ row_of g
 unfolding row_of find table count_trailing_zeros
 no_row g b e o =
     simp (

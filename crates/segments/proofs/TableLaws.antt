@@ -2,7 +2,7 @@
 -- bits of a hash and one depth less does not, so a depth is below D exactly if its shift is below 64.
 -- Assumes nothing.
 use Prim.Native.Nat.{ℕ, ◌+◌, ◌-◌, ◌*◌, ◌^◌, ◌≤◌, ◌<◌}
-use mathlib.Core.Path.{◌≡◌, refl, ap, subst}
+use mathlib.Core.Path.{◌≡◌, refl, sym, ap, subst}
 use mathlib.Core.Bool.{Bool, true, false, ◌&&◌, cond}
 use mathlib.Core.List.{List, [], ◌∷◌}
 use mathlib.Core.Logic.{◌⊎◌, inl, inr, ◌↔◌}
@@ -10,9 +10,10 @@ use native.Mathlib.Nat.{lt_of_lt_of_le, mul-le-mul_right, lt_of_mul-lt-mul_right
 use native.Mathlib.Omega.{arith}
 use lib.Dec.{T, eqb, ltb, leb, eqb→eq, ltb→lt, leb→le}
 use borrow.Author.Tests.{eqb-true}
-use Rattle.segments.specs.declared.DegreeRow.{DegreeRow}
-use Rattle.segments.specs.declared.DegreeRow.TheVariants.{Found, NotInTable}
 use Rattle.segments.specs.Segments.{Row, row, table, Listed, find, row_of}
+use Rattle.std.specs.Prelude.{Option, Some, None}
+use Rattle.segments.specs.declared.DegreeRow.{DegreeRow}
+use Rattle.segments.specs.Segments.{found}
 
 -- What the columns of a row have to do with each other.
 pub record Right (r : Row) : Type 0 where
@@ -93,42 +94,47 @@ below_depths r k t = (
   λ s. lt_of_mul-lt-mul_right r.bits (lt_of_lt_of_le s (depths_cover r k)),
 )
 
-found_in : (rows : List Row) (g b d l : ℕ) → find rows g ≡ Found b d l → Listed rows (row g b d l)
+-- a column of what was found
+abbrev column_in : (DegreeRow → ℕ) → Option DegreeRow → ℕ
+column_in f (Some x) = f x
+column_in f None = 0
+
+found_in : (rows : List Row) (g b d l : ℕ) → find rows g ≡ found b d l → Listed rows (row g b d l)
 unfolding find Listed
 found_in [] g b d l q = let z : ◌≡◌ {A = ℕ} 0 1 = cc in absurd (omega arith)
 found_in (r ∷ rs) g b d l q = by (λ q. found_in rs g b d l q) (eqb g r.degree) refl q
   where
-    by : (find rs g ≡ Found b d l → Listed rs (row g b d l)) → (t : Bool) → eqb g r.degree ≡ t
-        → cond t (Found r.bits r.depths r.last) (find rs g) ≡ Found b d l → (r ≡ row g b d l) ⊎ Listed rs (row g b d l)
+    by : (find rs g ≡ found b d l → Listed rs (row g b d l)) → (t : Bool) → eqb g r.degree ≡ t
+        → cond t (found r.bits r.depths r.last) (find rs g) ≡ found b d l → (r ≡ row g b d l) ⊎ Listed rs (row g b d l)
     by later true e q =
         let same : g ≡ r.degree = eqb-true _ _ e in
-        let bits : b ≡ r.bits = cc in
-        let depths : d ≡ r.depths = cc in
-        let last : l ≡ r.last = cc in
+        let bits : b ≡ r.bits = sym (ap (column_in (λ x. x.bits)) q) in
+        let depths : d ≡ r.depths = sym (ap (column_in (λ x. x.depths)) q) in
+        let last : l ≡ r.last = sym (ap (column_in (λ x. x.last)) q) in
         inl (rw (same, bits, depths, last))
     by later false e q = inr (later q)
 
 -- What is found for a degree is its row in the table.
-pub row_of_in : (g b d l : ℕ) → row_of g ≡ Found b d l → Listed table (row g b d l)
+pub row_of_in : (g b d l : ℕ) → row_of g ≡ found b d l → Listed table (row g b d l)
 unfolding row_of
 row_of_in g b d l q = found_in table g b d l q
 
 -- What was found is this row, as a test.
-abbrev is_row : DegreeRow → Row → Bool
-is_row (Found b d l) r = all (eqb b r.bits ∷ eqb d r.depths ∷ eqb l r.last ∷ [])
-is_row NotInTable r = false
+abbrev is_row : Option DegreeRow → Row → Bool
+is_row (Some x) r = all (eqb x.bits r.bits ∷ eqb x.depths r.depths ∷ eqb x.last r.last ∷ [])
+is_row None r = false
 
-is_row-Found : (o : DegreeRow) (r : Row) → T (is_row o r) → o ≡ Found r.bits r.depths r.last
-is_row-Found (Found b d l) r t =
-    let (p, (q, (s, u))) = each (eqb b r.bits ∷ eqb d r.depths ∷ eqb l r.last ∷ []) t in
-    rw (eqb→eq b _ p, eqb→eq d _ q, eqb→eq l _ s)
-is_row-Found NotInTable r t = absurd t
+is_row-Found : (o : Option DegreeRow) (r : Row) → T (is_row o r) → o ≡ found r.bits r.depths r.last
+is_row-Found (Some x) r t =
+    let (p, (q, (s, u))) = each (eqb x.bits r.bits ∷ eqb x.depths r.depths ∷ eqb x.last r.last ∷ []) t in
+    λ i. found (eqb→eq x.bits _ p i) (eqb→eq x.depths _ q i) (eqb→eq x.last _ s i)
+is_row-Found None r t = absurd t
 
 -- And every row of the table is found for its degree.
-pub row_of-Found : (r : Row) → Listed table r → row_of r.degree ≡ Found r.bits r.depths r.last
+pub row_of-Found : (r : Row) → Listed table r → row_of r.degree ≡ found r.bits r.depths r.last
 unfolding table row_of find
 row_of-Found r i = is_row-Found (row_of r.degree) r (at (λ q. is_row (row_of q.degree) q) table r tt i)
 
 -- So a degree for which none is found has no row.
-pub row_of_none : (g : ℕ) → row_of g ≡ NotInTable → (r : Row) → Listed table r → r.degree ≡ g → ⊥
+pub row_of_none : (g : ℕ) → row_of g ≡ None → (r : Row) → Listed table r → r.degree ≡ g → ⊥
 row_of_none g none r i e = let z : ◌≡◌ {A = ℕ} 0 1 = cc (row_of-Found r i) in omega arith

@@ -1,9 +1,8 @@
 -- Document 01, "Depths" and "Port order", 2: the table of degrees, the segment of a hash at a depth, and what `index_from_hash` answers.
-use Rattle.std.specs.Prelude.{ℕ, ◌*◌, ◌/◌, ◌%◌, ◌^◌, ◌≡◌, Bool, cond, List, [], ◌∷◌, ◌⊎◌, eqb, leb}
-use Rattle.segments.specs.declared.DegreeRow.{DegreeRow}
-use Rattle.segments.specs.declared.DegreeRow.TheVariants.{Found, NotInTable}
+use Rattle.std.specs.Prelude.{ℕ, ◌*◌, ◌/◌, ◌%◌, ◌^◌, ◌≡◌, Bool, cond, List, [], ◌∷◌, ◌⊎◌, eqb, leb, Option, Some, None}
 use Rattle.segments.specs.declared.Index.{Index}
 use Rattle.segments.specs.declared.Index.TheVariants.{At, Exhausted, NoSuchDegree}
+use Rattle.segments.specs.declared.DegreeRow.{DegreeRow}
 
 -- "Depths", a row of the table: degree, bits, depths D, bits at the last depth.
 pub record Row : Type 0 where
@@ -31,13 +30,17 @@ unfoldable pub Listed : List Row → Row → Type 0
 Listed [] r = ⊥
 Listed (q ∷ qs) r = (q ≡ r) ⊎ Listed qs r
 
+-- What is found for a degree: the other three columns of its row.
+abbrev pub found : ℕ → ℕ → ℕ → Option DegreeRow
+found b d l = Some (record { bits = b; depths = d; last = l })
+
 -- The first row of a degree in a list of rows, or none.
-unfoldable pub find : List Row → ℕ → DegreeRow
-find [] g = NotInTable
-find (q ∷ qs) g = cond (eqb g q.degree) (Found q.bits q.depths q.last) (find qs g)
+unfoldable pub find : List Row → ℕ → Option DegreeRow
+find [] g = None
+find (q ∷ qs) g = cond (eqb g q.degree) (found q.bits q.depths q.last) (find qs g)
 
 -- The row of a degree in the table, or none: "bad degree" is one that is "not in the table".
-unfoldable pub row_of : ℕ → DegreeRow
+unfoldable pub row_of : ℕ → Option DegreeRow
 row_of g = find table g
 
 -- "The segment at depth t is the hash divided by 2 to the power t·bits, modulo the degree." The degree is 2 to the power bits, which
@@ -50,9 +53,9 @@ unfoldable pub exhausted : ℕ → ℕ → Bool
 exhausted bits t = leb 64 (t * bits)
 
 -- What `index_from_hash` answers. A degree that is not in the table has no shift.
-unfoldable pub index_in : DegreeRow → ℕ → ℕ → Index
-index_in (Found bits depths last) h t = cond (exhausted bits t) Exhausted (At (segment bits t h))
-index_in NotInTable h t = NoSuchDegree
+unfoldable pub index_in : Option DegreeRow → ℕ → ℕ → Index
+index_in (Some r) h t = cond (exhausted r.bits t) Exhausted (At (segment r.bits t h))
+index_in None h t = NoSuchDegree
 
 unfoldable pub index_of : ℕ → ℕ → ℕ → Index
 index_of h t g = index_in (row_of g) h t

@@ -5,7 +5,7 @@
 //! segment is the part of a hash that one depth takes.
 //!
 //! A caller may rely on this, for any numbers:
-//! - `degree_row` answers the row of document 01's table, or that the degree is not there;
+//! - `degree_row` answers the row of document 01's table, or none where the degree is not there;
 //! - `index_from_hash` answers the segment at a depth, that the hash is exhausted there, or that there is no such
 //!   degree.
 //!
@@ -20,14 +20,15 @@ ghost use Rattle.segments.specs.Segments.{segment, row_of, index_of};
 
 // The row of a degree: the bits of a segment, the depths at which branches stand, and the bits that are left
 // for the last of them.
-#[derive(Clone, Copy)]
-pub enum DegreeRow {
-    Found { bits: u64, depths: u64, last: u64 },
-    NotInTable,
+#[derive(Clone, Copy, Debug, PartialEq, Eq)]
+pub struct DegreeRow {
+    pub bits: u64,
+    pub depths: u64,
+    pub last: u64,
 }
 
 // The place of a hash among the children of a branch at some depth.
-#[derive(Clone, Copy)]
+#[derive(Clone, Copy, Debug, PartialEq, Eq)]
 pub enum Index {
     At(u64),
     Exhausted,
@@ -49,24 +50,24 @@ fn column(bytes: u64, bits: u64) -> u64
 
 // A degree of the table is a power of two whose exponent is its bits. Every call reads the header and so comes here, which is
 // why the row is computed and not searched for.
-pub fn degree_row(degree: u64) -> DegreeRow
+pub fn degree_row(degree: u64) -> Option<DegreeRow>
     ensures { result ≡ row_of degree }
 {
     let bits = u64::trailing_zeros(degree) as u64;
     if bits == 0 {
-        return DegreeRow::NotInTable;
+        return None;
     }
     if 6 < bits {
-        return DegreeRow::NotInTable;
+        return None;
     }
     if degree != 1u64 << bits {
-        return DegreeRow::NotInTable;
+        return None;
     }
-    DegreeRow::Found {
+    Some(DegreeRow {
         bits,
         depths: column(DEPTHS, bits),
         last: column(LAST_BITS, bits),
-    }
+    })
 }
 
 // The segment at a depth that exists, for the layers of the shelf that have a row in hand. The divisor is a power of
@@ -83,18 +84,12 @@ pub fn segment_at(hash: u64, depth: u64, bits: u64) -> u64
 pub fn index_from_hash(hash: u64, depth: u64, degree: u64) -> Index
     ensures { result ≡ index_of hash depth degree }
 {
-    match degree_row(degree) {
-        DegreeRow::Found {
-            bits,
-            depths,
-            last: _,
-        } => {
-            if depth < depths {
-                Index::At(segment_at(hash, depth, bits))
-            } else {
-                Index::Exhausted
-            }
-        }
-        DegreeRow::NotInTable => Index::NoSuchDegree,
+    let Some(row) = degree_row(degree) else {
+        return Index::NoSuchDegree;
+    };
+    if depth < row.depths {
+        Index::At(segment_at(hash, depth, row.bits))
+    } else {
+        Index::Exhausted
     }
 }

@@ -7,7 +7,7 @@
 #![tactic(auto)]
 
 ghost use Rattle.std.specs.Prelude.{◌≡◌};
-ghost use Rattle.replies.specs.Answers.{formatted, made, updated, counted, in_use_answer, dropped, checked, found, compared};
+ghost use Rattle.replies.specs.Answers.{unit_answer, number_answer, update_answer, cells_answer, truth_answer};
 ghost use Rattle.flat.specs.Flat.{held, Says};
 ghost use Rattle.tags.specs.Tags.{class_of, key1};
 ghost use Rattle.shelf_c.specs.Classes.{classed, keyed};
@@ -18,10 +18,7 @@ ghost use Rattle.drops.specs.Terms.{Drops};
 ghost use Rattle.checks.specs.Terms.{Checks};
 ghost use Rattle.looks.specs.Terms.{Sizes, Uses, Gets, Lists, Compares};
 
-use flat::{
-    Flat, done, of_checked, of_compared, of_counted, of_dropped, of_formatted, of_found, of_made,
-    of_updated, of_use,
-};
+use flat::{Flat, done};
 use tags::Class;
 
 // Makes an arena of the words; every edition that was in it ends.
@@ -33,73 +30,73 @@ pub extern "C" fn shelf_format(
     entries: u64,
     editions: u64,
 ) -> Flat
-    ensures { Says formatted (λ x. Formats arena.old degree branches entries editions x arena.new) result }
+    ensures { Says unit_answer (λ x. Formats arena.old degree branches entries editions x arena.new) result }
 {
-    of_formatted(shelf::format(arena, degree, branches, entries, editions))
+    flat::of(shelf::format(arena, degree, branches, entries, editions))
 }
 
 // Whether the arena is sound, by its own test of every word.
 #[unsafe(no_mangle)]
 pub extern "C" fn shelf_check(arena: &[u64], work: &mut [u64]) -> Flat
-    ensures { Says checked (λ x. Checks arena.now work.old x work.new) result }
+    ensures { Says unit_answer (λ x. Checks arena.now work.old x work.new) result }
 {
-    of_checked(shelf::check(arena, work))
+    flat::of(shelf::check(arena, work))
 }
 
 // An edition without entries, in the lowest free slot.
 #[unsafe(no_mangle)]
 pub extern "C" fn shelf_new_edition(arena: &mut [u64]) -> Flat
-    ensures { Says made (λ x. MakesNew arena.old x arena.new) result }
+    ensures { Says number_answer (λ x. MakesNew arena.old x arena.new) result }
 {
-    of_made(shelf::new_edition(arena))
+    flat::of(shelf::new_edition(arena))
 }
 
 // The same edition once more, in the lowest free slot.
 #[unsafe(no_mangle)]
 pub extern "C" fn shelf_share(arena: &mut [u64], edition: u64) -> Flat
-    ensures { Says made (λ x. Shares arena.old edition x arena.new) result }
+    ensures { Says number_answer (λ x. Shares arena.old edition x arena.new) result }
 {
-    of_made(shelf::share(arena, edition))
+    flat::of(shelf::share(arena, edition))
 }
 
 // How many entries an edition has.
 #[unsafe(no_mangle)]
 pub extern "C" fn shelf_size(arena: &[u64], edition: u64) -> Flat
-    ensures { Says counted (λ x. Sizes arena.now edition x) result }
+    ensures { Says number_answer (λ x. Sizes arena.now edition x) result }
 {
-    of_counted(shelf::size(arena, edition))
+    flat::of(shelf::size(arena, edition))
 }
 
 // How many cells of each kind are in use.
 #[unsafe(no_mangle)]
 pub extern "C" fn shelf_in_use(arena: &[u64]) -> Flat
-    ensures { Says in_use_answer (λ x. Uses arena.now x) result }
+    ensures { Says cells_answer (λ x. Uses arena.now x) result }
 {
-    of_use(shelf::in_use(arena))
+    flat::of(shelf::in_use(arena))
 }
 
 // The value of a hash and a key in an edition.
 #[unsafe(no_mangle)]
 pub extern "C" fn shelf_get(arena: &[u64], edition: u64, hash: u64, key: u64) -> Flat
-    ensures { Says found (λ x. Gets arena.now edition hash key x) result }
+    ensures { Says number_answer (λ x. Gets arena.now edition hash key x) result }
 {
-    of_found(shelf::get(arena, edition, hash, key))
+    flat::of(shelf::get(arena, edition, hash, key))
 }
 
 // The entries of an edition from a place in its listing on.
 #[unsafe(no_mangle)]
 pub extern "C" fn shelf_list(arena: &[u64], edition: u64, place: u64, out: &mut [u64]) -> Flat
-    ensures { Says counted (λ x. Lists arena.now edition place out.old x out.new) result }
+    ensures { Says number_answer (λ x. Lists arena.now edition place out.old x out.new) result }
 {
-    of_counted(shelf::list(arena, edition, place, out))
+    flat::of(shelf::list(arena, edition, place, out))
 }
 
 // Whether two editions have the same entries.
 #[unsafe(no_mangle)]
 pub extern "C" fn shelf_equal(arena: &[u64], first: u64, second: u64) -> Flat
-    ensures { Says compared (λ x. Compares arena.now first second x) result }
+    ensures { Says truth_answer (λ x. Compares arena.now first second x) result }
 {
-    of_compared(shelf::equal(arena, first, second))
+    flat::of(shelf::equal(arena, first, second))
 }
 
 // An edition with an entry put in it; the old edition stays.
@@ -111,9 +108,9 @@ pub extern "C" fn shelf_insert(
     key: u64,
     value: u64,
 ) -> Flat
-    ensures { Says updated (λ x. Inserts arena.old edition hash key value x arena.new) result }
+    ensures { Says update_answer (λ x. Inserts arena.old edition hash key value x arena.new) result }
 {
-    of_updated(shelf::insert(arena, edition, hash, key, value))
+    flat::of(shelf::insert(arena, edition, hash, key, value))
 }
 
 // An edition with another value for a key that it has; the old edition stays.
@@ -125,25 +122,25 @@ pub extern "C" fn shelf_change(
     key: u64,
     value: u64,
 ) -> Flat
-    ensures { Says updated (λ x. Changes arena.old edition hash key value x arena.new) result }
+    ensures { Says update_answer (λ x. Changes arena.old edition hash key value x arena.new) result }
 {
-    of_updated(shelf::change(arena, edition, hash, key, value))
+    flat::of(shelf::change(arena, edition, hash, key, value))
 }
 
 // An edition with an entry taken out; the old edition stays.
 #[unsafe(no_mangle)]
 pub extern "C" fn shelf_remove(arena: &mut [u64], edition: u64, hash: u64, key: u64) -> Flat
-    ensures { Says updated (λ x. Removes arena.old edition hash key x arena.new) result }
+    ensures { Says update_answer (λ x. Removes arena.old edition hash key x arena.new) result }
 {
-    of_updated(shelf::remove(arena, edition, hash, key))
+    flat::of(shelf::remove(arena, edition, hash, key))
 }
 
 // Lets an edition go, and every cell that no other edition reaches.
 #[unsafe(no_mangle)]
 pub extern "C" fn shelf_drop(arena: &mut [u64], edition: u64) -> Flat
-    ensures { Says dropped (λ x. Drops arena.old edition x arena.new) result }
+    ensures { Says cells_answer (λ x. Drops arena.old edition x arena.new) result }
 {
-    of_dropped(shelf::drop(arena, edition))
+    flat::of(shelf::drop(arena, edition))
 }
 
 // A class as a number and two values: 0 public, 1 creator, 2 private element, 3 unassigned; then the block and the low byte.

@@ -1,62 +1,18 @@
 //! An answer as document 01's number, 0 where the call is done; or as text, its values or "no." with the number.
-use shelf::{Compared, Counted, Dropped, Formatted, InUse, Made, Updated};
+use shelf::{CellCounts, Refusal, Updated};
 use std::io;
 
-pub fn of_format(answer: Formatted) -> u64 {
+// Document 01's number of an answer.
+pub fn number<T: Copy>(answer: Result<T, Refusal>) -> u64 {
     match answer {
-        Formatted::Done => 0,
-        Formatted::Refused(why) => why.number(),
-    }
-}
-
-pub fn of_made(answer: Made) -> u64 {
-    match answer {
-        Made::Edition(_) => 0,
-        Made::Refused(why) => why.number(),
-    }
-}
-
-pub fn of_updated(answer: Updated) -> u64 {
-    match answer {
-        Updated::Edition {
-            edition: _,
-            branches: _,
-            entries: _,
-        } => 0,
-        Updated::Refused(why) => why.number(),
-    }
-}
-
-pub fn of_dropped(answer: Dropped) -> u64 {
-    match answer {
-        Dropped::Freed {
-            branches: _,
-            entries: _,
-        } => 0,
-        Dropped::Refused(why) => why.number(),
-    }
-}
-
-pub fn of_counted(answer: Counted) -> u64 {
-    match answer {
-        Counted::Entries(_) => 0,
-        Counted::Refused(why) => why.number(),
-    }
-}
-
-pub fn of_use(answer: InUse) -> u64 {
-    match answer {
-        InUse::Cells {
-            branches: _,
-            entries: _,
-        } => 0,
-        InUse::Refused(why) => why.number(),
+        Ok(_) => 0,
+        Err(why) => why.number(),
     }
 }
 
 // One more, as far as numbers go.
 pub fn count(n: u64) -> u64 {
-    if n < u64::MAX { n + 1 } else { n }
+    n.saturating_add(1)
 }
 
 // One more for a 4.
@@ -65,26 +21,26 @@ pub fn count_4(n: u64, number: u64) -> u64 {
 }
 
 // Which slot an edition was put in.
-pub fn say_made(rt: &impl Print, label: &[u8], answer: Made) -> io::Result<()> {
+pub fn say_made(rt: &impl Print, label: &[u8], answer: Result<u64, Refusal>) -> io::Result<()> {
     print::say(rt, label)?;
     match answer {
-        Made::Edition(slot) => print::decimal(rt, b" slot ", slot),
-        Made::Refused(why) => print::decimal(rt, b" no. ", why.number()),
+        Ok(slot) => print::decimal(rt, b" slot ", slot),
+        Err(why) => print::decimal(rt, b" no. ", why.number()),
     }
 }
 
-pub fn say_counted(rt: &impl Print, answer: Counted) -> io::Result<()> {
+pub fn say_counted(rt: &impl Print, answer: Result<u64, Refusal>) -> io::Result<()> {
     match answer {
-        Counted::Entries(n) => print::decimal(rt, b" ", n),
-        Counted::Refused(why) => print::decimal(rt, b" no. ", why.number()),
+        Ok(n) => print::decimal(rt, b" ", n),
+        Err(why) => print::decimal(rt, b" no. ", why.number()),
     }
 }
 
 // How many entries were written; none where the call was refused.
-pub fn entries(answer: Counted) -> u64 {
+pub fn entries(answer: Result<u64, Refusal>) -> u64 {
     match answer {
-        Counted::Entries(n) => n,
-        Counted::Refused(_) => 0,
+        Ok(n) => n,
+        Err(_) => 0,
     }
 }
 
@@ -92,38 +48,40 @@ pub fn entries(answer: Counted) -> u64 {
 pub fn say_use(rt: &impl Print, label: &[u8], a: &[u64]) -> io::Result<()> {
     print::say(rt, label)?;
     match shelf::in_use(a) {
-        InUse::Cells { branches, entries } => {
+        Ok(CellCounts { branches, entries }) => {
             print::decimal(rt, b" ", branches)?;
             print::decimal(rt, b" ", entries)
         }
-        InUse::Refused(why) => print::decimal(rt, b" no. ", why.number()),
+        Err(why) => print::decimal(rt, b" no. ", why.number()),
     }
 }
 
 // The edition that an update made and the cells that it took.
-pub fn say_updated(rt: &impl Print, answer: Updated) -> io::Result<()> {
+pub fn say_updated(rt: &impl Print, answer: Result<Updated, Refusal>) -> io::Result<()> {
     match answer {
-        Updated::Edition {
-            edition,
-            branches,
-            entries,
-        } => {
+        Ok(
+            Updated {
+                edition,
+                branches,
+                entries,
+            },
+        ) => {
             print::decimal(rt, b": edition ", edition)?;
             print::decimal(rt, b" takes ", branches)?;
             print::decimal(rt, b" ", entries)
         }
-        Updated::Refused(why) => print::decimal(rt, b": no. ", why.number()),
+        Err(why) => print::decimal(rt, b": no. ", why.number()),
     }
 }
 
 // The cells that a drop freed.
-pub fn say_dropped(rt: &impl Print, answer: Dropped) -> io::Result<()> {
+pub fn say_dropped(rt: &impl Print, answer: Result<CellCounts, Refusal>) -> io::Result<()> {
     match answer {
-        Dropped::Freed { branches, entries } => {
+        Ok(CellCounts { branches, entries }) => {
             print::decimal(rt, b" frees ", branches)?;
             print::decimal(rt, b" ", entries)
         }
-        Dropped::Refused(why) => print::decimal(rt, b" no. ", why.number()),
+        Err(why) => print::decimal(rt, b" no. ", why.number()),
     }
 }
 
@@ -137,9 +95,9 @@ pub fn say_compared(
 ) -> io::Result<()> {
     print::say(rt, label)?;
     match shelf::equal(a, first, second) {
-        Compared::Equal => print::say(rt, b" equal\n"),
-        Compared::Different => print::say(rt, b" different\n"),
-        Compared::Refused(why) => {
+        Ok(true) => print::say(rt, b" equal\n"),
+        Ok(false) => print::say(rt, b" different\n"),
+        Err(why) => {
             print::decimal(rt, b" no. ", why.number())?;
             print::say(rt, b"\n")
         }

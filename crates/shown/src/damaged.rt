@@ -5,10 +5,10 @@ use std::io;
 
 // One more for each of the four calls that answers 4.
 fn fours_of(a: &mut [u64], fours: u64) -> u64 {
-    let inserted = answer::of_updated(shelf::insert(a, u64::MAX, 0x26, 1, 10));
-    let changed = answer::of_updated(shelf::change(a, u64::MAX, 0x26, 1, 10));
-    let removed = answer::of_updated(shelf::remove(a, u64::MAX, 0x26, 1));
-    let dropped = answer::of_dropped(shelf::drop(a, u64::MAX));
+    let inserted = answer::number(shelf::insert(a, u64::MAX, 0x26, 1, 10));
+    let changed = answer::number(shelf::change(a, u64::MAX, 0x26, 1, 10));
+    let removed = answer::number(shelf::remove(a, u64::MAX, 0x26, 1));
+    let dropped = answer::number(shelf::drop(a, u64::MAX));
     let updates = answer::count_4(answer::count_4(fours, inserted), changed);
     answer::count_4(answer::count_4(updates, removed), dropped)
 }
@@ -25,28 +25,27 @@ fn with(a: &mut [u64], at: usize, word: u64, fours: u64) -> u64 {
 // Words 0 to 7, each with a number that it never has.
 fn wrong_words(a: &mut [u64]) -> u64 {
     let mut fours = 0;
-    let mut i = 0;
-    while i < 8 {
-        fours = with(a, i, 77, fours);
-        i += 1;
+    for at in 0..8 {
+        fours = with(a, at, 77, fours);
     }
     fours
 }
 
 // The calls on the first n words.
 fn cut_to(a: &mut [u64], n: usize, fours: u64) -> u64 {
-    if a.len() < n {
+    let Some(part) = a.get_mut(..n) else {
         return fours;
-    }
-    fours_of(&mut a[..n], fours)
+    };
+    fours_of(part, fours)
 }
 
 // No word, one word less than a header, and one less than the arena.
 fn cut(a: &mut [u64]) -> u64 {
-    let short = if 0 < a.len() { a.len() - 1 } else { 0 };
-    let none = cut_to(a, 0, 0);
-    let header = cut_to(a, 11, none);
-    cut_to(a, short, header)
+    let mut fours = 0;
+    for n in [0, 11, a.len().saturating_sub(1)] {
+        fours = cut_to(a, n, fours);
+    }
+    fours
 }
 
 // The slice has just the words of the arena.

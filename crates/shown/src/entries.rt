@@ -3,7 +3,7 @@
 // The hash of D and E.
 pub const CHAIN: u64 = 0x7000000000000008;
 
-#[derive(Clone, Copy)]
+#[derive(Clone, Copy, Debug, PartialEq, Eq)]
 pub struct Entry {
     pub hash: u64,
     pub key: u64,
@@ -11,11 +11,7 @@ pub struct Entry {
 }
 
 pub fn an_entry(hash: u64, key: u64, value: u64) -> Entry {
-    Entry {
-        hash: hash,
-        key: key,
-        value: value,
-    }
+    Entry { hash, key, value }
 }
 
 // By the step of the table that inserts it; the sixth is D with another value.

@@ -5,23 +5,21 @@ use std::io;
 
 // A word; 0 where there is none.
 pub fn word(words: &[u64], at: usize) -> u64 {
-    if at < words.len() { words[at] } else { 0 }
+    words.get(at).copied().unwrap_or(0)
 }
 
 pub fn put(words: &mut [u64], at: usize, word: u64) {
-    if at < words.len() {
-        words[at] = word;
+    if let Some(place) = words.get_mut(at) {
+        *place = word;
     }
 }
 
 fn say(rt: &impl Print, label: &[u8], words: &[u64]) -> io::Result<()> {
     print::say(rt, label)?;
-    let mut i = 0;
-    while i < words.len() {
-        print::decimal(rt, b" ", words[i])?;
-        i += 1;
+    for word in words {
+        print!(rt; " {word}")?;
     }
-    print::say(rt, b"\n")
+    println!(rt;)
 }
 
 // The words from a place on and before another.
@@ -39,29 +37,13 @@ pub fn say_part(
 
 // As many of the words as there is room for.
 pub fn copy(words: &[u64], room: &mut [u64]) {
-    let mut i = 0;
-    while i < words.len() {
-        if room.len() <= i {
-            return;
-        }
-        room[i] = words[i];
-        i += 1;
-    }
+    let n = words.len().min(room.len());
+    room[..n].copy_from_slice(&words[..n]);
 }
 
 // Whether the copy begins with these words.
 pub fn is_same(words: &[u64], before: &[u64]) -> bool {
-    if before.len() < words.len() {
-        return false;
-    }
-    let mut i = 0;
-    while i < words.len() {
-        if words[i] != before[i] {
-            return false;
-        }
-        i += 1;
-    }
-    true
+    before.starts_with(words)
 }
 
 // Whether a call left every word as it was.

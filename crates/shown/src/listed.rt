@@ -1,18 +1,14 @@
 //! Editions listed whole, one to a line.
-use crate::{answer, lent};
+use crate::answer;
 use std::io;
 
 // Room for the six entries of the largest edition.
 const FULL: usize = 18;
 
 fn say_entries(rt: &impl Print, words: &[u64]) -> io::Result<()> {
-    let mut i = 0;
-    while i + 3 <= words.len() {
-        print::hex(rt, b" (", lent::word(words, i), 1)?;
-        print::decimal(rt, b", ", lent::word(words, i + 1))?;
-        print::decimal(rt, b", ", lent::word(words, i + 2))?;
-        print::say(rt, b")")?;
-        i += 3;
+    let (entries, _) = words.as_chunks::<3>();
+    for [hash, key, value] in entries {
+        print!(rt; " ({hash:x}, {key}, {value})")?;
     }
     Ok(())
 }
@@ -38,10 +34,8 @@ fn numbered(rt: &impl Print, a: &[u64], edition: u64) -> io::Result<()> {
 
 // The first so many editions.
 pub fn first(rt: &impl Print, a: &[u64], editions: u64) -> io::Result<()> {
-    let mut edition = 0;
-    while edition < editions {
+    for edition in 0..editions {
         numbered(rt, a, edition)?;
-        edition += 1;
     }
     Ok(())
 }

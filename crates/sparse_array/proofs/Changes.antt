@@ -15,9 +15,9 @@ use Rattle.sparse_array.specs.Bitmap.{bit, below, size_of}
 use Rattle.sparse_array.specs.Array.{Slot, nothing, word, holds, put, held}
 use Rattle.sparse_array.specs.Shift.{Inserted, TakenOut}
 use Rattle.sparse_array.specs.Changes.{Becomes, Changes, Sets, Removes}
-use Rattle.sparse_array.specs.declared.Place.TheVariants.{At, Nothing}
-use Rattle.sparse_array.specs.declared.Changed.{Changed}
-use Rattle.sparse_array.specs.declared.Changed.TheVariants.{Now, Refused}
+use Rattle.std.specs.Prelude.{Some, None, Result, Ok, Err}
+use Rattle.sparse_array.specs.Places.{refused}
+use Rattle.sparse_array.specs.declared.Refused.{Refused}
 use Rattle.cases.proofs.Cases.{lt?, eq?}
 use Rattle.sparse_array.proofs.Bitmap.{bit_cases, OnlyAt, below_mono, below_set, below_own, below_size, below_only_upto, below_only_behind, or_only, or_there, xor_only, xor_there}
 use Rattle.sparse_array.proofs.Places.{Says}
@@ -132,40 +132,40 @@ Becomes-same b w i f r e =
 -- ---- what `set` and `remove` answer, by the answer of `map_index`
 
 module _ (b : ℕ) (w : List ℕ) (i : ℕ) where
-  pub set_Refused : (v : ℕ) → 64 ≤ i → Sets b w i v Refused w
+  pub set_Refused : (v : ℕ) → 64 ≤ i → Sets b w i v refused w
   set_Refused v h = (refused_index i (size_of b + (1 - bit b i)) w h, refl)
 
-  pub set_At-Refused : (v k : ℕ) → Says b i (At k) → length w < size_of b → Sets b w i v Refused w
+  pub set_At-Refused : (v k : ℕ) → Says b i (Ok (Some k)) → length w < size_of b → Sets b w i v refused w
   set_At-Refused v k p r = (refused_room i (size_of b + (1 - bit b i)) w (omega (arith, p.1)), refl)
 
-  pub set_at : (v k : ℕ) → b < 2 ^ 64 → Says b i (At k) → size_of b ≤ length w → Sets b w i v (Now b) (set w k v)
+  pub set_at : (v k : ℕ) → b < 2 ^ 64 → Says b i (Ok (Some k)) → size_of b ≤ length w → Sets b w i v (Ok b) (set w k v)
   set_at v k f p r = (
     granted_both i (size_of b + (1 - bit b i)) w p.0 (omega (arith, p.1)),
     rw p.2 (Becomes-replaced b w i v f r p.1),
   )
 
-  pub set_new_Refused : (v : ℕ) → Says b i Nothing → length w ≤ size_of b → Sets b w i v Refused w
+  pub set_new_Refused : (v : ℕ) → Says b i (Ok None) → length w ≤ size_of b → Sets b w i v refused w
   set_new_Refused v p r = (refused_room i (size_of b + (1 - bit b i)) w (omega (arith, p.1)), refl)
 
-  pub set_new : (v m : ℕ) (w' : List ℕ) → b < 2 ^ 64 → Says b i Nothing → size_of b < length w → Inserted w (below b i) (size_of b) v w' → m ≡ 2 ^ i
-      → Sets b w i v (Now (bit_or b m)) w'
+  pub set_new : (v m : ℕ) (w' : List ℕ) → b < 2 ^ 64 → Says b i (Ok None) → size_of b < length w → Inserted w (below b i) (size_of b) v w' → m ≡ 2 ^ i
+      → Sets b w i v (Ok (bit_or b m)) w'
   set_new v m w' f p r ins e = (
     granted_both i (size_of b + (1 - bit b i)) w p.0 (omega (arith, p.1)),
     rw e
         (Becomes-Inserted b (bit_or b (2 ^ i)) w w' i v f (or_lt 64 b (2 ^ i) f (pow-lt p.0)) p.0 (or_only b i) p.1 (or_there b i) r ins),
   )
 
-  pub remove_Refused : 64 ≤ i → Removes b w i Refused w
+  pub remove_Refused : 64 ≤ i → Removes b w i refused w
   remove_Refused h = (refused_index i (size_of b) w h, refl)
 
-  pub remove_short : length w < size_of b → Removes b w i Refused w
+  pub remove_short : length w < size_of b → Removes b w i refused w
   remove_short r = (refused_room i (size_of b) w r, refl)
 
-  pub remove_Nothing : b < 2 ^ 64 → Says b i Nothing → size_of b ≤ length w → Removes b w i (Now b) w
+  pub remove_Nothing : b < 2 ^ 64 → Says b i (Ok None) → size_of b ≤ length w → Removes b w i (Ok b) w
   remove_Nothing f p r = (granted_both i (size_of b) w p.0 r, Becomes-same b w i f r p.1)
 
-  pub remove_At : (k m : ℕ) (w' : List ℕ) → b < 2 ^ 64 → Says b i (At k) → size_of b ≤ length w → TakenOut w k (size_of b) w' → m ≡ 2 ^ i
-      → Removes b w i (Now (bit_xor b m)) w'
+  pub remove_At : (k m : ℕ) (w' : List ℕ) → b < 2 ^ 64 → Says b i (Ok (Some k)) → size_of b ≤ length w → TakenOut w k (size_of b) w' → m ≡ 2 ^ i
+      → Removes b w i (Ok (bit_xor b m)) w'
   remove_At k m w' f p r out q = (
     granted_both i (size_of b) w p.0 r,
     rw q
@@ -201,14 +201,14 @@ module _ (b : ℕ) (w : List ℕ) (A : ℕ → Slot) (b₁ b₂ : ℕ) (w₁ w�
   )
 
 -- `set` and `remove` have one answer, and leave one list of words.
-pub Changes-once : (b : ℕ) (w : List ℕ) (i need : ℕ) (A : ℕ → Slot) (r₁ r₂ : Changed) (w₁ w₂ : List ℕ)
+pub Changes-once : (b : ℕ) (w : List ℕ) (i need : ℕ) (A : ℕ → Slot) (r₁ r₂ : Result ℕ Refused) (w₁ w₂ : List ℕ)
     → Changes b w i need A r₁ w₁ → Changes b w i need A r₂ w₂ → (r₁ ≡ r₂) × (w₁ ≡ w₂)
-Changes-once b w i need A (Now b₁) (Now b₂) w₁ w₂ x y =
+Changes-once b w i need A (Ok b₁) (Ok b₂) w₁ w₂ x y =
     let same = becomes_once b w A b₁ b₂ w₁ w₂ x.1 y.1 in
-    (ap Now same.0, same.1)
-Changes-once b w i need A (Now b₁) Refused w₁ w₂ x y = absurd (true≢false (sym x.0 ∙ y.0))
-Changes-once b w i need A Refused (Now b₂) w₁ w₂ x y = absurd (true≢false (sym y.0 ∙ x.0))
-Changes-once b w i need A Refused Refused w₁ w₂ x y = (refl, x.1 ∙ sym y.1)
+    (ap Ok same.0, same.1)
+Changes-once b w i need A (Ok b₁) (Err _) w₁ w₂ x y = absurd (true≢false (sym x.0 ∙ y.0))
+Changes-once b w i need A (Err _) (Ok b₂) w₁ w₂ x y = absurd (true≢false (sym y.0 ∙ x.0))
+Changes-once b w i need A (Err _) (Err _) w₁ w₂ x y = (refl, x.1 ∙ sym y.1)
 
 -- ---- what follows from a change
 

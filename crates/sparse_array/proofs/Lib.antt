@@ -3,5 +3,4 @@ pub mod Array
 pub mod Room
 pub mod Places
 pub mod Finds
-pub mod Shift
 pub mod Changes

@@ -20,40 +20,21 @@ ghost use Rattle.sparse_array.specs.Changes.{Sets, Removes};
 // How many virtual indexes there are, a bit of the bitmap for each.
 pub const WIDTH: u64 = 64;
 
-// Where the word of a virtual index lies among the packed words.
-#[derive(Clone, Copy)]
-pub enum Place {
-    At(usize),
-    Nothing,
-    Refused,
-}
+// What a call answers that is refused: there is no such index, or the slice has no room for the words.
+#[derive(Clone, Copy, Debug, PartialEq, Eq)]
+pub struct Refused;
 
-// What a call that reads finds.
-#[derive(Clone, Copy)]
-pub enum Found {
-    Word(u64),
-    Nothing,
-    Refused,
-}
-
-// What a call that writes leaves: the bitmap that goes with the words from now on.
-#[derive(Clone, Copy)]
-pub enum Changed {
-    Now(u64),
-    Refused,
-}
-
-// Where the word of `index` lies, if it holds one.
-pub fn map_index(bitmap: u64, index: u64) -> Place
+// Where the word of `index` lies among the packed words, if it holds one.
+pub fn map_index(bitmap: u64, index: u64) -> Result<Option<usize>, Refused>
     ensures { result ≡ place_of bitmap index }
 {
     if WIDTH <= index {
-        return Place::Refused;
+        return Err(Refused);
     }
     if bitmap & (1u64 << index) == 0 {
-        return Place::Nothing;
+        return Ok(None);
     }
-    Place::At(rank(bitmap, index))
+    Ok(Some(rank(bitmap, index)))
 }
 
 // The number of elements set in indexes preceding `index`. The remainder by a power of two keeps the bits below it;
@@ -75,101 +56,90 @@ pub fn size(bitmap: u64) -> usize
 }
 
 // The word at `index`.
-pub fn get(bitmap: u64, words: &[u64], index: u64) -> Found
+pub fn get(bitmap: u64, words: &[u64], index: u64) -> Result<Option<u64>, Refused>
     ensures { result ≡ read_at bitmap words.now index }
 {
     if words.len() < size(bitmap) {
-        return Found::Refused;
+        return Err(Refused);
     }
-    match map_index(bitmap, index) {
-        Place::At(i) => Found::Word(words[i]),
-        Place::Nothing => Found::Nothing,
-        Place::Refused => Found::Refused,
+    match map_index(bitmap, index)? {
+        Some(i) => Ok(Some(words[i])),
+        None => Ok(None),
     }
 }
 
 // The word of the lowest index.
-pub fn first(bitmap: u64, words: &[u64]) -> Found
+#[tactic(auto, using(crate::proofs::Finds::first_word))]
+pub fn first(bitmap: u64, words: &[u64]) -> Result<Option<u64>, Refused>
     ensures { result ≡ read_packed first_of bitmap words.now }
 {
     let count = size(bitmap);
     if words.len() < count {
-        return Found::Refused;
+        return Err(Refused);
     }
-    if count == 0 {
-        return Found::Nothing;
-    }
-    Found::Word(words[0])
+    Ok(words[..count].first().copied())
 }
 
 // The word of the highest index. The Rust also drops it from its vector and leaves the bitmap as it is, which only a
 // node that is thrown away right after can bear; here nothing is written, since what is wanted is the word.
-pub fn pop(bitmap: u64, words: &[u64]) -> Found
+#[tactic(auto, using(crate::proofs::Finds::last_word))]
+pub fn pop(bitmap: u64, words: &[u64]) -> Result<Option<u64>, Refused>
     ensures { result ≡ read_packed last_of bitmap words.now }
 {
     let count = size(bitmap);
     if words.len() < count {
-        return Found::Refused;
+        return Err(Refused);
     }
-    if count == 0 {
-        return Found::Nothing;
-    }
-    Found::Word(words[count - 1])
+    Ok(words[..count].last().copied())
 }
 
-// Puts `value` at `index`: in the place of the word that stands there, or else among the packed words at its rank.
-pub fn set(bitmap: u64, words: &mut [u64], index: u64, value: u64) -> Changed
+// Puts `value` at `index`: in the place of the word that stands there, or else among the packed words at its rank. What
+// is left is the bitmap that goes with the words from now on.
+pub fn set(bitmap: u64, words: &mut [u64], index: u64, value: u64) -> Result<u64, Refused>
     ensures { Sets bitmap words.old index value result words.new }
 {
     let count = size(bitmap);
-    match map_index(bitmap, index) {
-        Place::At(i) => {
+    match map_index(bitmap, index)? {
+        Some(i) => {
             if words.len() < count {
-                return Changed::Refused;
+                return Err(Refused);
             }
             words[i] = value;
-            Changed::Now(bitmap)
+            Ok(bitmap)
         }
-        Place::Nothing => {
+        None => {
             if words.len() <= count {
-                return Changed::Refused;
+                return Err(Refused);
             }
             insert_word(words, rank(bitmap, index), count, value);
-            Changed::Now(bitmap | (1u64 << index))
+            Ok(bitmap | (1u64 << index))
         }
-        Place::Refused => Changed::Refused,
     }
 }
 
 // Leaves nothing at `index`. Where nothing stands there already, bitmap and words stay, as in the Rust.
-pub fn remove(bitmap: u64, words: &mut [u64], index: u64) -> Changed
+pub fn remove(bitmap: u64, words: &mut [u64], index: u64) -> Result<u64, Refused>
     ensures { Removes bitmap words.old index result words.new }
 {
     let count = size(bitmap);
     if words.len() < count {
-        return Changed::Refused;
+        return Err(Refused);
     }
-    match map_index(bitmap, index) {
-        Place::At(i) => {
+    match map_index(bitmap, index)? {
+        Some(i) => {
             remove_word(words, i, count);
-            Changed::Now(bitmap ^ (1u64 << index))
+            Ok(bitmap ^ (1u64 << index))
         }
-        Place::Nothing => Changed::Now(bitmap),
-        Place::Refused => Changed::Refused,
+        None => Ok(bitmap),
     }
 }
 
-// The vector's `insert` on the first `count` words: those from `at` on go one place up, the last of them first, so
-// that none is overwritten before it is moved.
+// The vector's `insert` on the first `count` words: those from `at` on go one place up.
 fn insert_word(words: &mut [u64], at: usize, count: usize, value: u64)
     requires { (at ≤ count) × (count < length words.old) }
     ensures { Inserted words.old at count value words.new }
 {
-    let mut i = count;
-    while at < i {
-        words[i] = words[i - 1];
-        i -= 1;
-    }
+    words.copy_within(at..count, at + 1);
     words[at] = value;
 }
 
@@ -179,10 +149,6 @@ fn remove_word(words: &mut [u64], at: usize, count: usize)
     requires { (at < count) × (count ≤ length words.old) }
     ensures { TakenOut words.old at count words.new }
 {
-    let mut i = at + 1;
-    while i < count {
-        words[i - 1] = words[i];
-        i += 1;
-    }
+    words.copy_within(at + 1..count, at);
     words[count - 1] = 0;
 }

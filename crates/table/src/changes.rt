@@ -13,24 +13,12 @@ fn change(rt: &impl Print, a: &mut [u64], label: &[u8], e: Entry) -> io::Result<
 }
 
 fn absent(rt: &impl Print, a: &mut [u64]) -> io::Result<()> {
-    change(
-        rt,
-        a,
-        b"  key 6",
-        entries::an_entry(0x7000000000000008, 6, 60),
-    )?;
-    change(
-        rt,
-        a,
-        b"  D's key under hash 42",
-        entries::an_entry(0x42, 4, 40),
-    )?;
-    change(
-        rt,
-        a,
-        b"  D's hash with A's key",
-        entries::an_entry(0x7000000000000008, 1, 1),
-    )
+    let key_6 = entries::an_entry(entries::CHAIN, 6, 60);
+    change(rt, a, b"  key 6", key_6)?;
+    let key_4 = entries::an_entry(0x42, 4, 40);
+    change(rt, a, b"  D's key under hash 42", key_4)?;
+    let key_1 = entries::an_entry(entries::CHAIN, 1, 1);
+    change(rt, a, b"  D's hash with A's key", key_1)
 }
 
 fn present(rt: &impl Print, a: &mut [u64]) -> io::Result<()> {

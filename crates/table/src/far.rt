@@ -8,8 +8,8 @@ fn at_degree(rt: &impl Print, degree: u64, branches: u64) -> io::Result<()> {
     print::decimal(rt, b"Hash 0, then 2^63 (degree ", degree)?;
     print::say(rt, b")\n")?;
     let mut a = [0u64; 837];
-    shelf::format(&mut a, degree, branches, 2, 3);
-    shelf::new_edition(&mut a);
+    let _ = shelf::format(&mut a, degree, branches, 2, 3);
+    let _ = shelf::new_edition(&mut a);
     steps::insert(
         rt,
         &mut a,
@@ -29,10 +29,8 @@ fn at_degree(rt: &impl Print, degree: u64, branches: u64) -> io::Result<()> {
 }
 
 pub fn show(rt: &impl Print) -> io::Result<()> {
-    at_degree(rt, 2, 65)?;
-    at_degree(rt, 4, 33)?;
-    at_degree(rt, 8, 23)?;
-    at_degree(rt, 16, 17)?;
-    at_degree(rt, 32, 14)?;
-    at_degree(rt, 64, 12)
+    for (degree, branches) in [(2, 65), (4, 33), (8, 23), (16, 17), (32, 14), (64, 12)] {
+        at_degree(rt, degree, branches)?;
+    }
+    Ok(())
 }

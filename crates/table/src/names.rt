@@ -2,22 +2,20 @@
 //! the words are read here. The arena has degree 16: a branch cell has 19 words, an entry cell 6.
 ghost use Rattle.std.specs.Prelude.{◌≤◌};
 
-use shown::{answer, lent};
+use shown::lent;
 use std::io;
 
 // How many of the cells from a word on, up to another, are named so often.
 fn named(a: &[u64], from: usize, end: usize, width: usize, times: u64) -> u64
     requires { (1 ≤ width) × (width ≤ 19) × (end ≤ 8192) }
 {
-    let mut n = 0;
-    let mut at = from;
-    while at < end {
-        if lent::word(a, at) == times {
-            n = answer::count(n);
-        }
-        at += width;
-    }
-    n
+    let Some(cells) = a.get(from..end) else {
+        return 0;
+    };
+    cells
+        .chunks(width)
+        .filter(|cell| lent::word(*cell, 0) == times)
+        .count() as u64
 }
 
 // The cells that are named 0 to 13 times.
@@ -32,10 +30,8 @@ fn say_kind(
     requires { (1 ≤ width) × (width ≤ 19) × (end ≤ 8192) }
 {
     print::say(rt, label)?;
-    let mut times = 0;
-    while times < 14 {
+    for times in 0..14 {
         print::decimal(rt, b" ", named(a, from, end, width, times))?;
-        times += 1;
     }
     Ok(())
 }

@@ -34,7 +34,7 @@ fn to_k6(rt: &impl Print, a: &mut [u64]) -> io::Result<()> {
 }
 
 fn also(rt: &impl Print, a: &mut [u64]) -> io::Result<()> {
-    let key_6 = entries::an_entry(0x7000000000000008, 6, 60);
+    let key_6 = entries::an_entry(entries::CHAIN, 6, 60);
     insert(rt, a, b"  key 6 under D's hash into 5", 5, key_6, 8)?;
     let key_4 = entries::an_entry(0x42, 4, 40);
     insert(rt, a, b"  key 4 under hash 42 into 5", 5, key_4, 9)
@@ -48,8 +48,8 @@ pub fn say_counts(rt: &impl Print, a: &[u64]) -> io::Result<()> {
 // The arena has 110 branch cells, 16 entry cells and 14 slots: 2,240 words.
 pub fn show(rt: &impl Print, a: &mut [u64]) -> io::Result<()> {
     print::say(rt, b"The shelf table (degree 16)\n")?;
-    shelf::format(a, 16, 110, 16, 14);
-    shelf::new_edition(a);
+    let _ = shelf::format(a, 16, 110, 16, 14);
+    let _ = shelf::new_edition(a);
     to_k3(rt, a)?;
     to_k6(rt, a)?;
     also(rt, a)?;

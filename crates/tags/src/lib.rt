@@ -11,10 +11,10 @@
 #![tactic(auto)]
 
 ghost use Rattle.std.specs.Prelude.{◌≡◌};
-ghost use Rattle.tags.specs.Tags.{within, class_of, key1};
+ghost use Rattle.tags.specs.Tags.{class_of, key1};
 
 // What a tag is. A block is a byte: a creator's is its element, an element's is the high byte.
-#[derive(Clone, Copy)]
+#[derive(Clone, Copy, Debug, PartialEq, Eq)]
 pub enum Class {
     Public,
     Creator { block: u8 },
@@ -22,36 +22,24 @@ pub enum Class {
     Unassigned,
 }
 
-// Whether an element lies in a range whose two ends belong to it.
-fn within(first: u16, last: u16, element: u16) -> bool
-    ensures { result ≡ within first last element }
-{
-    if first <= element {
-        element <= last
-    } else {
-        false
-    }
-}
-
 // The class of a tag. The tests stand in the order of the definition, each with its own answer.
+#[tactic(auto, unfolding(crate::specs::Tags::class_of, crate::specs::Tags::is_public, crate::specs::Tags::is_creator, crate::specs::Tags::is_element, crate::specs::Tags::within))]
 pub fn class_of(group: u16, element: u16) -> Class
     ensures { result ≡ class_of group element }
 {
     if group % 2 == 0 {
         return Class::Public;
     }
-    if within(0x0010, 0x00FF, element) {
-        return Class::Creator {
+    match element {
+        0x0010..=0x00FF => Class::Creator {
             block: element as u8,
-        };
-    }
-    if within(0x1000, 0xFFFF, element) {
-        return Class::Element {
+        },
+        0x1000..=0xFFFF => Class::Element {
             block: (element / 256) as u8,
             low: (element % 256) as u8,
-        };
+        },
+        _ => Class::Unassigned,
     }
-    Class::Unassigned
 }
 
 // Key rule 1. The product and the sum stay far below 2 to the power 64, so no tag is refused.

@@ -3,13 +3,15 @@
 use Prim.Native.Nat.{ℕ, ◌+◌, ◌-◌, ◌≤◌, ◌<◌}
 use mathlib.Core.Path.{◌≡◌, refl, sym, ap, ◌∙◌}
 use mathlib.Core.Bool.{true, false}
-use mathlib.Core.List.{List}
+use mathlib.Core.List.{List, ◌++◌}
 use mathlib.Core.Logic.{⊎_elim}
 use native.Mathlib.Numerals.{add-one}
 use native.Mathlib.Omega.{arith}
 use borrow.Author.Tests.{eq-eqb, ne_eqb}
-use lib.ListN.{length, get_or, set, length-set}
+use lib.ListN.{length, get_or, set, length-set, replicate, length-replicate, drop, get_or-append}
 use lib.Seq.{get_or-set_same, get_or-set_other}
+use Rattle.std.proofs.Common.{length-append, length-drop}
+use Rattle.std.proofs.lemmas.List.{get_or-append_right, get_or-drop, get_or-replicate}
 use Rattle.cases.proofs.Cases.{eq?, lt?}
 use Rattle.counts.specs.Counts.{ind, sum_to, times}
 use Rattle.counts.proofs.CountLaws.{ind_same, ind_other, cnt_le, sum_le}
@@ -101,10 +103,6 @@ module _ (z : Shape) where
   Adds-next f g k u v w a b e =
       Adds-twice (λ q. sum_to k (f q)) g (λ q. sum_to (k + 1) (f q)) u v w a b (λ q. omega (arith, sum_more k (f q), e q))
 
-  pub Adds-done : (f : ℕ → ℕ → ℕ) (k n : ℕ) (u v : List ℕ) → k ≤ n → n ≤ k → Adds z (λ q. sum_to k (f q)) u v
-      → Adds z (λ q. sum_to n (f q)) u v
-  Adds-done f k n u v l m a = let e : k ≡ n = omega arith in rw e at a
-
   Adds-Low : (g : ℕ → ℕ) (m n p : ℕ) (u v : List ℕ) → Low z m u → Adds z g u v → ((q : ℕ) → g q ≤ n) → m + n ≤ p → Low z p v
   Adds-Low g m n p u v l a h b = λ r k. omega (arith, l r k, a.first r k, h r)
 
@@ -161,34 +159,22 @@ module _ (z : Shape) (r : ℕ) (w : List ℕ) where
       (λ q m.
       ind_other q r (λ e. let x : names z r ≡ true = ap (names z) e ∙ m in let y : ◌≡◌ {A = ℕ} 0 1 = cc in omega arith))
 
--- ALL ZEROS, from the first on
-pub record Zeros (n i : ℕ) (u w : List ℕ) : Type 0 where
-  pub same_length : length w ≡ length u
-  pub low : i ≤ n
-  pub before : (j : ℕ) → j < i → get_or w j 0 ≡ 0
-  pub after : (j : ℕ) → i ≤ j → get_or w j 0 ≡ get_or u j 0
-
-pub Zeros-none : (n : ℕ) (u : List ℕ) → Zeros n 0 u u
-Zeros-none n u = record { same_length = refl; low = omega arith; before = λ j l. absurd (omega arith); after = λ j l. refl }
-
-pub Zeros-next : (n i : ℕ) (u w : List ℕ) → Zeros n i u w → i < n → n ≤ length u → Zeros n (i + 1) u (set w i 0)
-Zeros-next n i u w k l b =
+-- ALL ZEROS. The words in front are 0, and those behind them are as they were.
+pub Works-zeros : (z : Shape) (u v : List ℕ) → work_words z ≤ length u → v ≡ replicate (work_words z) 0
+    → Works z (λ r. 0) u (v ++ drop (work_words z) u)
+Works-zeros z u v l e =
+    let n = work_words z in
+    let m : length v ≡ n = ap length e ∙ length-replicate n 0 in
     record {
-      same_length = length-set w i 0 ∙ k.same_length;
-      low = omega arith;
-      before =
-          λ j m.
-          ⊎_elim
-          (λ (e : j ≡ i). rw e (get_or-set_same w i 0 0 (omega (arith, k.same_length))))
-          (λ (ne : j ≡ i → ⊥). get_or-set_other w i j 0 0 ne ∙ k.before j (omega arith))
-          (eq? j i);
-      after = λ j m. get_or-set_other w i j 0 0 (λ e. omega arith) ∙ k.after j (omega arith);
-    }
-
-pub Zeros-all : (z : Shape) (n i : ℕ) (u w : List ℕ) → n ≡ work_words z → Zeros n i u w → n ≤ i → Works z (λ r. 0) u w
-Zeros-all z n i u w e k l =
-    record {
-      same_length = k.same_length;
-      first = λ r m. k.before (work_place z r) (omega (arith, work_below z r m));
-      rest = λ j g. k.after j (omega (arith, k.low));
+      same_length = length-append v (drop n u) ∙ omega (arith, m, length-drop n u, l);
+      first =
+          λ r k.
+          let p = work_below z r k in
+          get_or-append v (drop n u) 0 (work_place z r) (omega arith)
+          ∙ rw e (get_or-replicate n (work_place z r) 0 0 p);
+      rest =
+          λ j g.
+          get_or-append_right v (drop n u) n j 0 m g
+          ∙ get_or-drop n u (j - n) 0
+          ∙ ap (λ (i : ℕ). get_or u i 0) {x = n + (j - n)} {y = j} (omega arith);
     }

@@ -22,12 +22,7 @@ pub fn clear(work: &mut [u64], z: Shape)
     requires work_fits { work_words z ≤ length work.old }
     ensures { Works z (λ r. 0) work.old work.new }
 {
-    let n = z.branches + z.entries;
-    let mut i = 0;
-    while i < n {
-        work[i as usize] = 0;
-        i += 1;
-    }
+    work[..(z.branches + z.entries) as usize].fill(0);
 }
 
 // The place of a cell's work word.
@@ -60,13 +55,12 @@ fn tally_one(work: &mut [u64], z: Shape, r: u64)
 fn tally_cell(a: &[u64], work: &mut [u64], z: Shape, r: u64, kids: u64)
     requires lent { Lent z a.now }
     requires work_fits { work_words z ≤ length work.old }
-    requires low { (Low z (2 ^ 50) work.old) × (kids ≤ 64) }
+    requires low { Low z (2 ^ 50) work.old }
+    requires few_kids { kids ≤ 64 }
     ensures { Adds z (times kids ((columns z a.now).kid r)) work.old work.new }
 {
-    let mut k = 0;
-    while k < kids {
+    for k in 0..kids {
         tally_one(&mut *work, z, links::kid(a, z, r, k));
-        k += 1;
     }
 }
 
@@ -74,14 +68,13 @@ fn tally_cell(a: &[u64], work: &mut [u64], z: Shape, r: u64, kids: u64)
 fn tally_cells(a: &[u64], work: &mut [u64], z: Shape, kind: u64, kids: u64)
     requires lent { Lent z a.now }
     requires work_fits { work_words z ≤ length work.old }
-    requires low { (Low z (2 ^ 40) work.old) × (kids ≤ 64) × (kind < 2) }
+    requires low { Low z (2 ^ 40) work.old }
+    requires few_kids { kids ≤ 64 }
+    requires is_kind { kind < 2 }
     ensures { Adds z (λ q. sum_to (cells_of z kind) (λ i. times kids ((columns z a.now).kid (reference kind i)) q)) work.old work.new }
 {
-    let cells = words::cells_of(z, kind);
-    let mut i = 0;
-    while i < cells {
+    for i in 0..words::cells_of(z, kind) {
         tally_cell(a, &mut *work, z, 2 * i + 2 + kind, kids);
-        i += 1;
     }
 }
 
@@ -92,10 +85,8 @@ fn tally_roots(a: &[u64], work: &mut [u64], z: Shape)
     requires low { Low z 0 work.old }
     ensures { Adds z (times z.slots (columns z a.now).root) work.old work.new }
 {
-    let mut s = 0;
-    while s < z.slots {
+    for s in 0..z.slots {
         tally_one(&mut *work, z, words::slot_word(a, z, s, words::ROOT));
-        s += 1;
     }
 }
 
@@ -118,14 +109,11 @@ fn are_counts_of(a: &[u64], work: &[u64], z: Shape, kind: u64) -> bool
     requires is_kind { kind < 2 }
     ensures { result ≡ counts_of z (columns z a.now) work.now kind }
 {
-    let cells = words::cells_of(z, kind);
-    let mut i = 0;
-    while i < cells {
+    for i in 0..words::cells_of(z, kind) {
         let r = 2 * i + 2 + kind;
         if work[work_at(z, r)] != words::word(a, z, r, words::COUNT) {
             return false;
         }
-        i += 1;
     }
     true
 }
@@ -136,8 +124,5 @@ pub fn are_counts(a: &[u64], work: &[u64], z: Shape) -> bool
     requires work_fits { work_words z ≤ length work.now }
     ensures { result ≡ counts_right z (columns z a.now) work.now }
 {
-    if !are_counts_of(a, work, z, 0) {
-        return false;
-    }
-    are_counts_of(a, work, z, 1)
+    are_counts_of(a, work, z, 0) && are_counts_of(a, work, z, 1)
 }

@@ -4,27 +4,22 @@ use tags::Class;
 
 fn class(rt: &impl Print, group: u16, element: u16) -> io::Result<()> {
     match tags::class_of(group, element) {
-        Class::Public => print::say(rt, b"public"),
-        Class::Creator { block } => { print::hex(rt, b"creator of block ", block as u64, 2) }
-        Class::Element { block, low } => {
-            print::hex(rt, b"element ", low as u64, 2)?;
-            print::hex(rt, b" of block ", block as u64, 2)
-        }
-        Class::Unassigned => print::say(rt, b"unassigned"),
+        Class::Public => print!(rt; "public"),
+        Class::Creator { block } => print!(rt; "creator of block {block:02x}"),
+        Class::Element { block, low } => print!(rt; "element {low:02x} of block {block:02x}"),
+        Class::Unassigned => print!(rt; "unassigned"),
     }
 }
 
 fn tag(rt: &impl Print, group: u16, element: u16) -> io::Result<()> {
-    print::hex(rt, b"  (", group as u64, 4)?;
-    print::hex(rt, b",", element as u64, 4)?;
-    print::say(rt, b") ")?;
+    print!(rt; "  ({group:04x},{element:04x}) ")?;
     class(rt, group, element)?;
-    print::hex(rt, b", key ", tags::key_1(group, element), 1)?;
-    print::say(rt, b"\n")
+    let key = tags::key_1(group, element);
+    println!(rt; ", key {key:x}")
 }
 
 pub fn show(rt: &impl Print) -> io::Result<()> {
-    print::say(rt, b"Tags (in hex)\n")?;
+    println!(rt; "Tags (in hex)")?;
     tag(rt, 0x0008, 0x0010)?;
     tag(rt, 0x0009, 0x000F)?;
     tag(rt, 0x0009, 0x0010)?;

@@ -5,12 +5,12 @@ use std::io;
 fn row(rt: &impl Print, degree: u64) -> io::Result<()> {
     print::decimal(rt, b"  degree ", degree)?;
     match segments::degree_row(degree) {
-        DegreeRow::Found { bits, depths, last } => {
+        Some(DegreeRow { bits, depths, last }) => {
             print::decimal(rt, b": bits ", bits)?;
             print::decimal(rt, b", depths ", depths)?;
             print::decimal(rt, b", bits at the last depth ", last)?;
         }
-        DegreeRow::NotInTable => print::say(rt, b": refused")?,
+        None => print::say(rt, b": refused")?,
     }
     print::say(rt, b"\n")
 }

@@ -6,15 +6,15 @@ use std::io;
 fn step(rt: &impl Print, hash: u64, depth: u64, degree: u64) -> io::Result<bool> {
     match segments::index_from_hash(hash, depth, degree) {
         Index::At(segment) => {
-            print::hex(rt, b" ", segment, 1)?;
+            print!(rt; " {segment:x}")?;
             Ok(true)
         }
         Index::Exhausted => {
-            print::decimal(rt, b", exhausted at depth ", depth)?;
+            print!(rt; ", exhausted at depth {depth}")?;
             Ok(false)
         }
         Index::NoSuchDegree => {
-            print::say(rt, b" no such degree")?;
+            print!(rt; " no such degree")?;
             Ok(false)
         }
     }
@@ -22,26 +22,22 @@ fn step(rt: &impl Print, hash: u64, depth: u64, degree: u64) -> io::Result<bool>
 
 // No degree has more than 64 depths, so the walk ends by itself before the bound does.
 fn walk(rt: &impl Print, hash: u64, degree: u64) -> io::Result<()> {
-    let mut depth = 0;
-    while depth <= 64 {
+    for depth in 0..=64 {
         if !step(rt, hash, depth, degree)? {
-            return Ok(());
+            break;
         }
-        depth += 1;
     }
     Ok(())
 }
 
 fn path(rt: &impl Print, hash: u64, degree: u64) -> io::Result<()> {
-    print::decimal(rt, b"  degree ", degree)?;
-    print::hex(rt, b", hash ", hash, 1)?;
-    print::say(rt, b":")?;
+    print!(rt; "  degree {degree}, hash {hash:x}:")?;
     walk(rt, hash, degree)?;
-    print::say(rt, b"\n")
+    println!(rt; "")
 }
 
 pub fn show(rt: &impl Print) -> io::Result<()> {
-    print::say(rt, b"Paths (hash and segments in hex)\n")?;
+    println!(rt; "Paths (hash and segments in hex)")?;
     path(rt, 0x26, 16)?;
     path(rt, 0x16, 16)?;
     path(rt, 0x42, 16)?;

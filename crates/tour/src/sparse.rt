@@ -1,56 +1,49 @@
 //! A sparse array of three words: set out of order, read, written over, taken from, and refused.
-use sparse_array::{Changed, Found};
+use sparse_array::Refused;
 use std::io;
 
 fn packed(rt: &impl Print, words: &[u64]) -> io::Result<()> {
-    print::say(rt, b": words")?;
-    let mut i = 0;
-    while i < words.len() {
-        print::hex(rt, b" ", words[i], 1)?;
-        i += 1;
+    print!(rt; ": words")?;
+    for word in words {
+        print!(rt; " {word:x}")?;
     }
     Ok(())
 }
 
 // Prints the rest of a line, what the call answered, and answers the bitmap that goes with the words now.
-fn outcome(rt: &impl Print, before: u64, changed: Changed) -> io::Result<u64> {
+fn outcome(rt: &impl Print, before: u64, changed: Result<u64, Refused>) -> io::Result<u64> {
     match changed {
-        Changed::Now(bitmap) => {
-            print::hex(rt, b", bitmap ", bitmap, 16)?;
-            print::say(rt, b"\n")?;
+        Ok(bitmap) => {
+            println!(rt; ", bitmap {bitmap:016x}")?;
             Ok(bitmap)
         }
-        Changed::Refused => {
-            print::say(rt, b", refused\n")?;
+        Err(Refused) => {
+            println!(rt; ", refused")?;
             Ok(before)
         }
     }
 }
 
 fn set(rt: &impl Print, bitmap: u64, words: &mut [u64], index: u64, value: u64) -> io::Result<u64> {
-    print::decimal(rt, b"  set ", index)?;
-    print::hex(rt, b" to ", value, 1)?;
+    print!(rt; "  set {index} to {value:x}")?;
     let changed = sparse_array::set(bitmap, words, index, value);
     packed(rt, words)?;
     outcome(rt, bitmap, changed)
 }
 
 fn remove(rt: &impl Print, bitmap: u64, words: &mut [u64], index: u64) -> io::Result<u64> {
-    print::decimal(rt, b"  remove ", index)?;
+    print!(rt; "  remove {index}")?;
     let changed = sparse_array::remove(bitmap, words, index);
     packed(rt, words)?;
     outcome(rt, bitmap, changed)
 }
 
 fn get(rt: &impl Print, bitmap: u64, words: &[u64], index: u64) -> io::Result<()> {
-    print::decimal(rt, b"  get ", index)?;
+    print!(rt; "  get {index}")?;
     match sparse_array::get(bitmap, words, index) {
-        Found::Word(word) => {
-            print::hex(rt, b": ", word, 1)?;
-            print::say(rt, b"\n")
-        }
-        Found::Nothing => print::say(rt, b": nothing\n"),
-        Found::Refused => print::say(rt, b": refused\n"),
+        Ok(Some(word)) => println!(rt; ": {word:x}"),
+        Ok(None) => println!(rt; ": nothing"),
+        Err(Refused) => println!(rt; ": refused"),
     }
 }
 
@@ -84,10 +77,7 @@ fn take_out(rt: &impl Print, bitmap: u64, words: &mut [u64]) -> io::Result<u64> 
 }
 
 pub fn show(rt: &impl Print) -> io::Result<()> {
-    print::say(
-        rt,
-        b"A sparse array of three words (words and bitmap in hex)\n",
-    )?;
+    println!(rt; "A sparse array of three words (words and bitmap in hex)")?;
     let mut words = [0u64; 3];
     let full = fill(rt, &mut words)?;
     read(rt, full, &words)?;

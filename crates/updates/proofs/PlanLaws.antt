@@ -22,7 +22,6 @@ use Rattle.trie.proofs.PathLaws.{chain_of}
 use Rattle.arena.specs.Shows.{ShowsChain, ShowsMap}
 use Rattle.arena.proofs.Few.{chain_few, size_few, columns_live}
 use Rattle.arena.proofs.Shelved.{Good}
-use Rattle.lookup.specs.declared.Hit.TheVariants.{At, Nowhere}
 use Rattle.lookup.specs.Lookup.{path_end, hit_from, longest}
 use Rattle.lookup.proofs.Meaning.{live_named}
 use Rattle.lookup.proofs.SplitLaws.{split_rest, map_hit_there, map_hit_none}
@@ -37,6 +36,7 @@ use Rattle.grafts.proofs.ReachLaws.{reach_means, reach_empty_means}
 use Rattle.updates.specs.declared.Plan.{Plan}
 use Rattle.updates.specs.Calls.{replacing, adding, plan_of}
 use Rattle.updates.proofs.MapLaws.{with_entry, new_branches, root_case, new_leaf, root_branches, empty_branches}
+use Rattle.std.specs.Prelude.{Some, None}
 
 -- what the plan p says of the map m below the root r, for new cells of these names: `copied` are the entries that are copied,
 -- `behind` those that follow them in the old chain, and `shared` those that stand behind the copies in the new one
@@ -66,12 +66,12 @@ module _ (z : Shape) (a : List ℕ) (e h k : ℕ) where
   abbrev end : ℕ
   end = path_end z σ h z.depths 0 (σ.root e)
 
-  plan_there : (q : ℕ) → hit_from z σ h k (longest z) end ≡ At q
+  plan_there : (q : ℕ) → hit_from z σ h k (longest z) end ≡ Some q
       → plan_of z a e h k ≡ replacing z σ (σ.root e) (σ.size e) h end q
   unfolding plan_of
   plan_there q y = rw y
 
-  plan_new : hit_from z σ h k (longest z) end ≡ Nowhere → plan_of z a e h k ≡ adding z σ (σ.root e) (σ.size e) h
+  plan_new : hit_from z σ h k (longest z) end ≡ None → plan_of z a e h k ≡ adding z σ (σ.root e) (σ.size e) h
   unfolding plan_of
   plan_new y = rw y
 

@@ -15,11 +15,11 @@ use Rattle.replies.specs.declared.Refusal.TheVariants as Why
 use Rattle.replies.specs.Answers.{refused}
 use Rattle.replies.specs.Outcomes.{Outcome, leaves, on_wrote}
 use Rattle.replies.proofs.AnswerLaws.{wrote_none, wrote_some}
-use Rattle.grants.specs.declared.Room.TheVariants.{At, Refused}
 use Rattle.grants.specs.Rooms.{room_of, hold_to}
 use Rattle.grants.proofs.CaseLaws.{on_At, on_refused}
 use Rattle.updates.specs.declared.Plan.{Plan}
 use Rattle.updates.specs.Calls.{replacing, adding, root_to, write_to, planned_to, wanted}
+use Rattle.std.specs.Prelude.{Ok, Err}
 
 -- PLANS
 module _ (z : Shape) (σ : State) (root size h : ℕ) (reach : Reach) where
@@ -60,10 +60,10 @@ module _ (z : Shape) (a : List ℕ) (h k v : ℕ) (p : Plan) (s x : ℕ) (w : Li
 
 -- ROOM
 module _ (z : Shape) (a : List ℕ) (h k v : ℕ) (p : Plan) (n : ℕ) (en : n ≡ one_more p.before) where
-  pub room_goes : (s : ℕ) (o : Outcome) → room_of z a p.branches n ≡ At s → o ≡ write_to z a h k v p s → o ≡ planned_to z a h k v p
+  pub room_goes : (s : ℕ) (o : Outcome) → room_of z a p.branches n ≡ Ok s → o ≡ write_to z a h k v p s → o ≡ planned_to z a h k v p
   room_goes s o q w = w ∙ sym (on_At a _ (write_to z a h k v p) s (rw en at q))
 
-  pub room_refuses : (why : Refusal) → room_of z a p.branches n ≡ Refused why → leaves (refused why) a ≡ planned_to z a h k v p
+  pub room_refuses : (why : Refusal) → room_of z a p.branches n ≡ Err why → leaves (refused why) a ≡ planned_to z a h k v p
   room_refuses why q = sym (on_refused a _ (write_to z a h k v p) why (rw en at q))
 
 -- WANTED

@@ -13,7 +13,6 @@ use Rattle.trie.specs.Built.{Built, inserted}
 use Rattle.trie.specs.Names.{forget}
 use Rattle.trie.proofs.RenameMaps.{rename-insert}
 use Rattle.chains.specs.Chains.{an_entry}
-use Rattle.replies.specs.declared.Updated as R
 use Rattle.replies.specs.Answers as A
 use Rattle.replies.specs.Outcomes.{leaves}
 use Rattle.grants.proofs.MeansLaws.{Writer, Builds, updates}
@@ -23,6 +22,9 @@ use Rattle.updates.proofs.TestLaws.{writing}
 use Rattle.updates.proofs.InsideLaws.{write_kept}
 use Rattle.updates.proofs.SlotLaws.{write_slot}
 use Rattle.updates.proofs.RoomLaws.{write_Does}
+use Rattle.std.specs.Prelude.{Result}
+use Rattle.replies.specs.declared.Refusal.{Refusal}
+use Rattle.replies.specs.declared.Updated as U
 
 -- what can be built can be built with an entry more
 insert_Builds : (x : Entry) → Word64 x → Builds (insert_step x)
@@ -44,10 +46,10 @@ writer a e h k v change =
     }
 
 -- THE CONTRACTS
-pub inserts : (a : List ℕ) (e h k v : ℕ) → Word64 (an_entry h k v) → (r : R.Updated) (b : List ℕ)
-    → leaves (A.updated r) b ≡ insert_of a e h k v → Inserts a e h k v r b
+pub inserts : (a : List ℕ) (e h k v : ℕ) → Word64 (an_entry h k v) → (r : Result U.Updated Refusal) (b : List ℕ)
+    → leaves (A.update_answer r) b ≡ insert_of a e h k v → Inserts a e h k v r b
 inserts a e h k v fits = updates (writer a e h k v false) (insert_Builds (an_entry h k v) fits)
 
-pub changes : (a : List ℕ) (e h k v : ℕ) → Word64 (an_entry h k v) → (r : R.Updated) (b : List ℕ)
-    → leaves (A.updated r) b ≡ change_of a e h k v → Changes a e h k v r b
+pub changes : (a : List ℕ) (e h k v : ℕ) → Word64 (an_entry h k v) → (r : Result U.Updated Refusal) (b : List ℕ)
+    → leaves (A.update_answer r) b ≡ change_of a e h k v → Changes a e h k v r b
 changes a e h k v fits = updates (writer a e h k v true) (insert_Builds (an_entry h k v) fits)

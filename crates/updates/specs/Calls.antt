@@ -1,11 +1,9 @@
 -- What insert and change answer and every word that they leave, on any words: document 01, "Answer numbers", its tests in its
 -- order, and "What an update takes".
-use Rattle.std.specs.Prelude.{ℕ, ◌-◌, Bool, true, false, cond, List}
+use Rattle.std.specs.Prelude.{ℕ, ◌-◌, Bool, true, false, cond, List, Option, Some, None}
 use Rattle.layout.specs.declared.Shape.{Shape}
 use Rattle.layout.specs.Header.{header_of}
 use Rattle.layout.specs.Columns.{State, columns}
-use Rattle.lookup.specs.declared.Hit.{Hit}
-use Rattle.lookup.specs.declared.Hit.TheVariants as H
 use Rattle.lookup.specs.Lookup.{path_end, hit_from, longest}
 use Rattle.cells.specs.Mirrors.{one_more}
 use Rattle.chains.specs.Chains.{length_at, an_entry, front_pushed}
@@ -45,9 +43,9 @@ adding z σ root size h =
       replaced = false;
     }
 
-abbrev pub plan_by : Shape → State → ℕ → ℕ → ℕ → ℕ → Hit → Plan
-plan_by z σ root size h front (H.At q) = replacing z σ root size h front q
-plan_by z σ root size h front H.Nowhere = adding z σ root size h
+abbrev pub plan_by : Shape → State → ℕ → ℕ → ℕ → ℕ → Option ℕ → Plan
+plan_by z σ root size h front (Some q) = replacing z σ root size h front q
+plan_by z σ root size h front None = adding z σ root size h
 
 abbrev pub plan_at : Shape → State → ℕ → ℕ → ℕ → ℕ → ℕ → Plan
 plan_at z σ root size h k front = plan_by z σ root size h front (hit_from z σ h k (longest z) front)

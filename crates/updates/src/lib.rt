@@ -11,14 +11,13 @@ ghost use Rattle.std.specs.Prelude.{◌≡◌, true, ◌<◌};
 ghost use Rattle.layout.specs.Layout.{Lent};
 ghost use Rattle.layout.specs.Columns.{columns};
 ghost use Rattle.cells.specs.Slots.{held_slot};
-ghost use Rattle.replies.specs.Answers.{updated};
+ghost use Rattle.replies.specs.Answers.{update_answer};
 ghost use Rattle.replies.specs.Outcomes.{leaves};
 ghost use Rattle.updates.specs.Calls.{replacing, adding, plan_of, write_to, planned_to, wanted, write_in, insert_in, change_in};
 
 use cells::{shares, slots};
-use grants::Room;
 use layout::{Shape, words};
-use lookup::{Hit, links};
+use lookup::links;
 use replies::{Refusal, Updated};
 
 // What the reading pass finds: the edition's root, the size of the new edition; the chain at the end of the path, how many
@@ -84,17 +83,25 @@ fn survey(a: &[u64], z: Shape, edition: u64, hash: u64, key: u64) -> Plan
     let size = words::slot_word(a, z, edition, words::SIZE);
     let front = lookup::descend(a, z, root, hash);
     match lookup::find(a, z, front, hash, key) {
-        Hit::At(hit) => replace(a, z, root, size, hash, front, hit),
-        Hit::Nowhere => add(a, z, root, size, hash),
+        Some(hit) => replace(a, z, root, size, hash, front, hit),
+        None => add(a, z, root, size, hash),
     }
 }
 
 // The new edition in a slot. On a sound arena there are the cells that were counted; on any other a free chain may break
 // off, and then what was written stands, but no slot is taken.
-fn write(a: &mut [u64], z: Shape, hash: u64, key: u64, value: u64, plan: Plan, slot: u64) -> Updated
+fn write(
+    a: &mut [u64],
+    z: Shape,
+    hash: u64,
+    key: u64,
+    value: u64,
+    plan: Plan,
+    slot: u64,
+) -> Result<Updated, Refusal>
     requires lent { Lent z a.old }
     requires in_slots { slot < z.slots }
-    ensures { leaves (updated result) a.new ≡ write_to z a.old hash key value plan slot }
+    ensures { leaves (update_answer result) a.new ≡ write_to z a.old hash key value plan slot }
 {
     let leaf = chains::push_front(
         &mut *a,
@@ -108,7 +115,7 @@ fn write(a: &mut [u64], z: Shape, hash: u64, key: u64, value: u64, plan: Plan, s
         plan.rest,
     );
     if leaf == 0 {
-        return Updated::Refused(Refusal::NoEntryCells);
+        return Err(Refusal::NoEntryCells);
     }
     let root = grafts::graft(&mut *a, z, hash, leaf, plan.replaced, z.depths, plan.root);
     let entries = shares::more(plan.before);
@@ -116,14 +123,20 @@ fn write(a: &mut [u64], z: Shape, hash: u64, key: u64, value: u64, plan: Plan, s
 }
 
 // A plan carried out, if there are a slot and the cells for it.
-fn write_planned(a: &mut [u64], z: Shape, hash: u64, key: u64, value: u64, plan: Plan) -> Updated
+#[tactic(auto, using(grants::proofs::CaseLaws::room_in, crate::proofs::StepLaws::room_goes, crate::proofs::StepLaws::room_refuses))]
+fn write_planned(
+    a: &mut [u64],
+    z: Shape,
+    hash: u64,
+    key: u64,
+    value: u64,
+    plan: Plan,
+) -> Result<Updated, Refusal>
     requires { Lent z a.old }
-    ensures { leaves (updated result) a.new ≡ planned_to z a.old hash key value plan }
+    ensures { leaves (update_answer result) a.new ≡ planned_to z a.old hash key value plan }
 {
-    match grants::find_room(&*a, z, plan.branches, shares::more(plan.before)) {
-        Room::At(slot) => write(a, z, hash, key, value, plan, slot),
-        Room::Refused(why) => Updated::Refused(why),
-    }
+    let slot = grants::find_room(&*a, z, plan.branches, shares::more(plan.before))?;
+    write(a, z, hash, key, value, plan, slot)
 }
 
 // Insert and change differ in one thing: a change wants the key to be there.
@@ -141,16 +154,16 @@ fn write_held(
     key: u64,
     value: u64,
     present: bool,
-) -> Updated
+) -> Result<Updated, Refusal>
     requires lent { Lent z a.old }
     requires is_held { held_slot z a.old edition ≡ true }
-    ensures { leaves (updated result) a.new ≡ write_in z a.old edition hash key value present }
+    ensures { leaves (update_answer result) a.new ≡ write_in z a.old edition hash key value present }
 {
     let found = survey(&*a, z, edition, hash, key);
     if wants(present, found) {
         write_planned(a, z, hash, key, value, found)
     } else {
-        Updated::Refused(Refusal::Absent)
+        Err(Refusal::Absent)
     }
 }
 
@@ -162,29 +175,43 @@ fn write_edition(
     key: u64,
     value: u64,
     present: bool,
-) -> Updated
+) -> Result<Updated, Refusal>
     requires { Lent z a.old }
-    ensures { leaves (updated result) a.new ≡ write_in z a.old edition hash key value present }
+    ensures { leaves (update_answer result) a.new ≡ write_in z a.old edition hash key value present }
 {
     if slots::is_held(&*a, z, edition) {
         write_held(a, z, edition, hash, key, value, present)
     } else {
-        Updated::Refused(Refusal::NoSuchEdition)
+        Err(Refusal::NoSuchEdition)
     }
 }
 
 // An edition with an entry put in it, in the lowest free slot.
-pub fn insert(a: &mut [u64], z: Shape, edition: u64, hash: u64, key: u64, value: u64) -> Updated
+pub fn insert(
+    a: &mut [u64],
+    z: Shape,
+    edition: u64,
+    hash: u64,
+    key: u64,
+    value: u64,
+) -> Result<Updated, Refusal>
     requires { Lent z a.old }
-    ensures { leaves (updated result) a.new ≡ insert_in z a.old edition hash key value }
+    ensures { leaves (update_answer result) a.new ≡ insert_in z a.old edition hash key value }
 {
     write_edition(a, z, edition, hash, key, value, false)
 }
 
 // An edition with another value for a key that it has, in the lowest free slot.
-pub fn change(a: &mut [u64], z: Shape, edition: u64, hash: u64, key: u64, value: u64) -> Updated
+pub fn change(
+    a: &mut [u64],
+    z: Shape,
+    edition: u64,
+    hash: u64,
+    key: u64,
+    value: u64,
+) -> Result<Updated, Refusal>
     requires { Lent z a.old }
-    ensures { leaves (updated result) a.new ≡ change_in z a.old edition hash key value }
+    ensures { leaves (update_answer result) a.new ≡ change_in z a.old edition hash key value }
 {
     write_edition(a, z, edition, hash, key, value, true)
 }

@@ -20,10 +20,7 @@ fn root(a: &[u64]) -> u64 {
 fn place(r: u64) -> usize
     ensures { result ≤ 8000 }
 {
-    if r < 2 {
-        return 0;
-    }
-    if 50 <= r {
+    if r < 2 || 50 <= r {
         return 0;
     }
     let cell = (r / 2 - 1) as usize;
@@ -36,12 +33,11 @@ fn place(r: u64) -> usize
 
 // The entry cell that has a key.
 fn entry(a: &[u64], key: u64) -> u64 {
-    let mut r = 3;
-    while r < 17 {
+    for cell in 1..8 {
+        let r = 2 * cell + 1;
         if lent::word(a, place(r) + 4) == key {
             return r;
         }
-        r += 2;
     }
     0
 }
@@ -60,24 +56,17 @@ fn put(a: &mut [u64], r: u64, k: usize, word: u64)
 }
 
 fn begin(a: &mut [u64]) {
-    shelf::format(a, 16, 24, 7, 7);
+    let _ = shelf::format(a, 16, 24, 7, 7);
     steps::before(a, 6);
 }
 
 // Whether the words from a place on and before another are those of the copy.
 fn is_kept(a: &[u64], copy: &[u64], from: usize, end: usize) -> bool {
-    let mut i = from;
-    while i < end {
-        if lent::word(a, i) != lent::word(copy, i) {
-            return false;
-        }
-        i += 1;
-    }
-    true
+    (from..end).all(|i| lent::word(a, i) == lent::word(copy, i))
 }
 
 fn let_go(rt: &impl Print, a: &mut [u64], edition: u64) -> io::Result<()> {
-    print::decimal(rt, b" ", answer::of_dropped(shelf::drop(a, edition)))
+    print::decimal(rt, b" ", answer::number(shelf::drop(a, edition)))
 }
 
 // K5 is dropped, and then all the others.
@@ -85,12 +74,9 @@ fn tried(rt: &impl Print, a: &mut [u64], label: &[u8]) -> io::Result<()> {
     let mut copy = [0u64; WORDS];
     lent::copy(a, &mut copy);
     print::say(rt, label)?;
-    let_go(rt, a, 5)?;
-    let_go(rt, a, 4)?;
-    let_go(rt, a, 3)?;
-    let_go(rt, a, 2)?;
-    let_go(rt, a, 1)?;
-    let_go(rt, a, 0)?;
+    for edition in (0..6).rev() {
+        let_go(rt, a, edition)?;
+    }
     if is_kept(a, &copy, 0, 8) && is_kept(a, &copy, TOTAL, WORDS) {
         print::say(rt, b"; words 0 to 7 and beyond the arena as before\n")
     } else {

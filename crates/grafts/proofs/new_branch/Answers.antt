@@ -8,7 +8,7 @@ pub returns-then-r-eq0 : goal.returns-then-r-eq0
 returns-then-r-eq0 c = branch_over _ _ _ _ _ _ _ c.take-r.ensures.answers c.take-r.ensures.leaves c.if-r-eq0.true
 
 pub fill_branch-requires : goal.fill_branch-requires
-fill_branch-requires c = record { lent = lent_same (omega (arith, c.take-r.auto.a)) c.requires.lent; row_fills_branch = named_room _ c.args.a.now _ c.args.row.now c.requires.lent c.take-r.ensures.answers c.if-r-eq0.false c.requires.row_len }
+fill_branch-requires c = record { lent = lent_same (omega (arith, c.take-r.auto.a)) c.requires; row_fills_branch = named_room _ c.args.a.now _ c.args.row.now c.requires c.take-r.ensures.answers c.if-r-eq0.false (omega arith) }
 
 pub returns : goal.returns
 returns c = branch_on _ _ _ _ _ _ _ _ c.take-r.ensures.answers c.take-r.ensures.leaves c.if-r-eq0.false c.fill_branch.ensures

@@ -1,7 +1,6 @@
 -- `grafts::put_child` meets its contract: the row without the new child is shared as far as it is filled, and with the child fills
 -- the new branch. Assumes nothing.
 use mathlib.Core.Path.{◌∙◌}
-use lib.ListN.{length-set}
 use Rattle.segments.proofs.TableLaws.{below_depths}
 use Rattle.sparse_array.proofs.Bitmap.{below_le}
 use Rattle.layout.proofs.SizeLaws.{small, row_is_Right}
@@ -20,7 +19,7 @@ gap-gap-requires c = rw c.segment_at-segment.ensures (segment_low _ c.requires.l
 
 pub load-requires : goal.load-requires
 load-requires c =
-    record { lent = (c.requires.lent, zeros_Blank); gap_in_row = (place_low _ _ _ _ _ _ c.requires.lent.allowed c.segment_at-segment.ensures c.rank-at.ensures, gap_few _ _ _ c.gap-gap.ensures) }
+    record { lent = c.requires.lent; blank = zeros_Blank; in_row = place_low _ _ _ _ _ _ c.requires.lent.allowed c.segment_at-segment.ensures c.rank-at.ensures; small_gap = gap_few _ _ _ c.gap-gap.ensures }
 
 pub overflow_add-size : goal.overflow_add-size
 overflow_add-size c = omega (arith, c.size.ensures, below_le c.bits-bits.result 64, gap_few _ _ _ c.gap-gap.ensures)
@@ -32,18 +31,19 @@ pub bounds-row-at : goal.bounds-row-at
 bounds-row-at c = omega (arith, place_low _ _ _ _ _ _ c.requires.lent.allowed c.segment_at-segment.ensures c.rank-at.ensures, (small _ c.requires.lent.allowed).degree_high)
 
 pub with-requires : goal.with-requires
-with-requires c = (rw c.segment_at-segment.ensures (segment_low _ c.requires.lent.allowed _ _), c.gap-gap.ensures)
+with-requires c =
+    record { in_bitmap = rw c.segment_at-segment.ensures (segment_low _ c.requires.lent.allowed _ _); gap_is = c.gap-gap.ensures }
 
 pub new_branch-requires : goal.new_branch-requires
 new_branch-requires c =
-    record { lent = lent_same (omega (arith, c.share_row.auto.a)) c.requires.lent; row_len = simp length-set (omega (arith, c.load.auto.row)) }
+    lent_same (omega (arith, c.share_row.auto.a)) c.requires.lent
 
 pub returns : goal.returns
 returns c =
     put_is _ _ _ _ _ _ _ _ _ _ _ c.load.new.row _ _ _
     c.segment_at-segment.ensures c.bits-bits.ensures c.gap-gap.ensures c.rank-at.ensures
     c.with.ensures
-    (omega (arith, c.load.auto.row, place_low _ _ _ _ _ _ c.requires.lent.allowed c.segment_at-segment.ensures c.rank-at.ensures, (small _ c.requires.lent.allowed).degree_high))
+    (omega (arith, place_low _ _ _ _ _ _ c.requires.lent.allowed c.segment_at-segment.ensures c.rank-at.ensures, (small _ c.requires.lent.allowed).degree_high))
     c.load.ensures
-    (c.share_row.ensures ∙ share_up_to _ _ _ _ _ c.filled-n.ensures.0 c.filled-n.ensures.1)
+    (c.share_row.ensures ∙ share_up_to _ _ _ _ _ c.filled-n.ensures.in_row c.filled-n.ensures.none_behind)
     c.new_branch.ensures

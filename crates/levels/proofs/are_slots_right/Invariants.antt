@@ -1,13 +1,10 @@
 -- `levels::are_slots_right` meets its contract: what is left of the slots decides as all do. Assumes nothing.
 use mathlib.Core.Path.{◌≡◌}
-use Prim.Native.Nat.{◌-◌, ◌≤◌}
+use Prim.Native.Nat.{◌-◌}
 use Rattle.layout.specs.Columns.{columns}
 use Rattle.audits.specs.Audits.{all_from}
 use Rattle.levels.specs.Levels.{slot_right, slots_right}
 use Rattle.levels.proofs.are_slots_right.Given as given
 
 abbrev pub invariant-loop-s : given.invariant-loop-s
-invariant-loop-s l = (slots_right l.z (columns l.z l.a) ≡ all_from (slot_right l.z (columns l.z l.a)) l.s (l.z.slots - l.s)) × (l.s ≤ l.z.slots)
-
-abbrev pub decreases-loop-s : given.decreases-loop-s
-decreases-loop-s l = l.z.slots - l.s
+invariant-loop-s l = slots_right l.z (columns l.z l.a) ≡ all_from (slot_right l.z (columns l.z l.a)) l.s (l.z.slots - l.s)

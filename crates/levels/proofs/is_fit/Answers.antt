@@ -9,10 +9,6 @@ use Rattle.levels.proofs.is_fit.Goals as goal
 pub returns-then-segment_at-low : goal.returns-then-segment_at-low
 returns-then-segment_at-low c = sym (fit_low _ _ _ _ _ _ _ _ c.segment_at.ensures c.if-segment_at-low.true)
 
-pub nonzero_rem-hash : goal.nonzero_rem-hash
-nonzero_rem-hash c =
-    let n = c.args.depth * c.args.z.bits in omega (arith, shift_one n c.requires.prefix_fits, pow_pos n)
-
 pub nonzero_rem-first : goal.nonzero_rem-first
 nonzero_rem-first c =
     let n = c.args.depth * c.args.z.bits in omega (arith, shift_one n c.requires.prefix_fits, pow_pos n)

@@ -1,17 +1,7 @@
 -- `levels::is_slot_right` meets its contract: the words of the slot tell which test is its. Assumes nothing.
 use mathlib.Core.Path.{sym, ◌∙◌}
-use native.Mathlib.Omega.{arith}
 use Rattle.levels.proofs.CaseLaws.{slot_held, slot_odd, slot_root, slot_size}
 use Rattle.levels.proofs.is_slot_right.Goals as goal
-
-pub slot_word-held-requires : goal.slot_word-held-requires
-slot_word-held-requires c = record { lent = c.requires.lent; in_slots = (c.requires.in_slots, omega (arith, c.requires.lent.allowed.wide)) }
-
-pub slot_word-root-requires : goal.slot_word-root-requires
-slot_word-root-requires c = record { lent = c.requires.lent; in_slots = (c.requires.in_slots, omega (arith, c.requires.lent.allowed.wide)) }
-
-pub slot_word-size-requires : goal.slot_word-size-requires
-slot_word-size-requires c = record { lent = c.requires.lent; in_slots = (c.requires.in_slots, omega (arith, c.requires.lent.allowed.wide)) }
 
 pub returns-then-held-eq1 : goal.returns-then-held-eq1
 returns-then-held-eq1 c =

@@ -7,12 +7,10 @@ use Rattle.levels.specs.Levels.{row_from, see_at}
 use Rattle.levels.proofs.read_row.Given as given
 
 abbrev pub invariant-loop-k : given.invariant-loop-k
-invariant-loop-k l = (row_from (see_at l.z (columns l.z l.a) (suc l.depth)) l.z (columns l.z l.a) l.depth l.r l.lead l.z.degree 0 0 0 0
-    ≡ row_from (see_at l.z (columns l.z l.a) (suc l.depth)) l.z (columns l.z l.a) l.depth l.r l.lead (l.z.degree - l.k) l.k l.low l.bits l.size)
-    × (l.k ≤ l.z.degree)
-    × (l.bits < 2 ^ l.low)
-    × (l.low ≤ 64)
-    × (l.size ≤ l.z.entries)
-
-abbrev pub decreases-loop-k : given.decreases-loop-k
-decreases-loop-k l = l.z.degree - l.k
+invariant-loop-k l = record {
+  same : row_from (see_at l.z (columns l.z l.a) (suc l.depth)) l.z (columns l.z l.a) l.depth l.r l.lead l.z.degree 0 0 0 0
+      ≡ row_from (see_at l.z (columns l.z l.a) (suc l.depth)) l.z (columns l.z l.a) l.depth l.r l.lead (l.z.degree - l.k) l.k l.low l.bits l.size;
+  bits_below : l.bits < 2 ^ l.low;
+  low_fits : l.low ≤ 64;
+  size_fits : l.size ≤ l.z.entries;
+}

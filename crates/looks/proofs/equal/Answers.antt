@@ -16,8 +16,5 @@ returns-then-not-is_held-2 c = sym (equal_second_not_held _ _ _ _ (sym c.is_held
 pub is_equal-requires : goal.is_equal-requires
 is_equal-requires c = record { lent = c.requires; in_slots = ((held_says _ _ _ (sym c.is_held.ensures ∙ c.if-not-is_held.false)).0, (held_says _ _ _ (sym c.is_held-2.ensures ∙ c.if-not-is_held-2.false)).0) }
 
-pub returns-then-is_equal : goal.returns-then-is_equal
-returns-then-is_equal c = sym (equal_by _ _ _ _ _ (sym c.is_held.ensures ∙ c.if-not-is_held.false) (sym c.is_held-2.ensures ∙ c.if-not-is_held-2.false) (sym c.is_equal.ensures ∙ c.if-is_equal.true))
-
-pub returns-else-is_equal : goal.returns-else-is_equal
-returns-else-is_equal c = sym (equal_by _ _ _ _ _ (sym c.is_held.ensures ∙ c.if-not-is_held.false) (sym c.is_held-2.ensures ∙ c.if-not-is_held-2.false) (sym c.is_equal.ensures ∙ c.if-is_equal.false))
+pub returns : goal.returns
+returns c = sym (equal_by _ _ _ _ _ (sym c.is_held.ensures ∙ c.if-not-is_held.false) (sym c.is_held-2.ensures ∙ c.if-not-is_held-2.false) (sym c.is_equal.ensures))

@@ -12,4 +12,4 @@ pub returns-then-is_entry : goal.returns-then-is_entry
 returns-then-is_entry c = single_entry _ _ _ _ (sym c.is_entry.ensures ∙ c.if-is_entry.true) c.word.ensures
 
 pub returns-else-is_entry : goal.returns-else-is_entry
-returns-else-is_entry c = single_none _ _ _ (sym c.is_entry.ensures ∙ c.if-is_entry.false)
+returns-else-is_entry c = c.if-is_entry.false ∙ single_none _ _ _ (sym c.is_entry.ensures ∙ c.if-is_entry.false)

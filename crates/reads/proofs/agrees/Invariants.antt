@@ -1,13 +1,12 @@
 -- `reads::agrees` meets its contract: what is still to be compared decides as the whole does. Assumes nothing.
 use mathlib.Core.Path.{◌≡◌}
 use Rattle.iter.specs.Met.{still, Settled}
-use lib.ListN.{length}
 use Rattle.trie.specs.Trie.{every}
 use Rattle.reads.specs.Agrees.{agree, is_entry_in}
 use Rattle.reads.proofs.agrees.Given as given
 
 abbrev pub invariant-loop-z : given.invariant-loop-z
-invariant-loop-z l = (agree l.z l.a l.first l.second ≡ every (is_entry_in l.z l.a l.second) (still l.z l.a l.stack l.it)) × Settled l.z l.it × (length l.stack ≡ 65)
+invariant-loop-z l = (agree l.z l.a l.first l.second ≡ every (is_entry_in l.z l.a l.second) (still l.z l.a l.walk)) × Settled l.z l.walk
 
 abbrev pub decreases-loop-z : given.decreases-loop-z
-decreases-loop-z l = l.it.left
+decreases-loop-z l = l.walk.left

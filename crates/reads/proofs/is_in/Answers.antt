@@ -19,15 +19,15 @@ pub find-requires : goal.find-requires
 find-requires c = c.requires.lent
 
 pub word-found-requires : goal.word-found-requires
-word-found-requires c = record { lent = c.requires.lent; has_word = has_part _ _ _ (hit_names _ _ _ _ _ _ _ (sym c.find.ensures ∙ c.in-At.is)) (omega arith) }
+word-found-requires c = record { lent = c.requires.lent; has_word = has_part _ _ _ (hit_names _ _ _ _ _ _ _ (sym c.find.ensures ∙ c.in-Some.is)) (omega arith) }
 
 pub word-requires : goal.word-requires
 word-requires c = record { lent = c.requires.lent; has_word = has_part _ _ _ c.requires.is_entry (omega arith) }
 
-pub returns-in-At : goal.returns-in-At
-returns-in-At c =
-    let hit = sym c.find.ensures ∙ c.in-At.is in
+pub returns-in-Some : goal.returns-in-Some
+returns-in-Some c =
+    let hit = sym c.find.ensures ∙ c.in-Some.is in
     sym (is_in_value _ (value_below _ _ _ _ _ _ _ c.descend.ensures hit ∙ sym (ap got (c.word-found.ensures ∙ sym (entry_word _ _ _ _ (hit_names _ _ _ _ _ _ _ hit) (omega arith)))))) ∙ is_entry_in_words _ _ _ _ _ _ _ c.requires.is_entry c.word-hash.ensures c.word-key.ensures c.word.ensures
 
-pub returns-in-Nowhere : goal.returns-in-Nowhere
-returns-in-Nowhere c = sym (is_in_missing _ (value_below _ _ _ _ _ _ _ c.descend.ensures (sym c.find.ensures ∙ c.in-Nowhere.is))) ∙ is_entry_in_words _ _ _ _ _ _ _ c.requires.is_entry c.word-hash.ensures c.word-key.ensures refl
+pub returns-in-None : goal.returns-in-None
+returns-in-None c = sym (is_in_missing _ (value_below _ _ _ _ _ _ _ c.descend.ensures (sym c.find.ensures ∙ c.in-None.is))) ∙ is_entry_in_words _ _ _ _ _ _ _ c.requires.is_entry c.word-hash.ensures c.word-key.ensures refl

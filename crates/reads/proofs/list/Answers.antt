@@ -6,4 +6,4 @@ as-answers-leaves : {T0 T1 : Type 0} → T0 × T1 → record { answers : T0; lea
 as-answers-leaves p = record { answers = p.0; leaves = p.1 }
 
 pub returns : goal.returns
-returns c = as-answers-leaves (listed_whole c.args.place c.args.out.now c.start-first.ensures.still_to_come c.skip-from.ensures.still_to_come (c.write.ensures.answers, c.write.ensures.leaves))
+returns c = as-answers-leaves (listed_whole c.args.place c.args.out.now c.start-walk.ensures.still_to_come c.skip.ensures.still_to_come (c.write.ensures.answers, c.write.ensures.leaves))

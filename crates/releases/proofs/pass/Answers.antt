@@ -1,7 +1,10 @@
 -- `releases::pass` meets its contract: each turn leaves what the row comes to with one place more.
-use mathlib.Core.Path.{refl, sym, ap, ◌∙◌}
+use Prim.Native.Nat.{ℕ, ◌≤◌}
+use mathlib.Core.List.{List}
+use mathlib.Core.Path.{refl, sym, ap, ◌∙◌, subst}
+use Rattle.layout.specs.declared.Shape.{Shape}
+use Rattle.releases.specs.Releases.{RowGoesOn}
 use lib.ListN.{length}
-use Rattle.layout.proofs.SizeLaws.{small}
 use Rattle.cells.proofs.KeptLaws.{lent_same}
 use Rattle.releases.proofs.SharedLaws.{child_place, out_names, none_turn, shared_turn}
 use native.Mathlib.Omega.{arith}
@@ -9,10 +12,7 @@ use Rattle.releases.proofs.pass.Goals as goal
 use Rattle.releases.proofs.pass.Goals.{then-child-ne0+else-not-is_shared, else-child-ne0}
 
 pub loop-k-init : goal.loop-k-init
-loop-k-init c = ((λ w g. g), refl, omega arith, omega arith)
-
-pub overflow_add-k : goal.overflow_add-k
-overflow_add-k c = omega (arith, small _ c.requires.lent.allowed)
+loop-k-init c = ((λ w g. g), refl)
 
 pub word-child-requires : goal.word-child-requires
 word-child-requires c = record { lent = lent_same c.loop-k.invariant.1 c.requires.lent; has_word = child_place _ _ _ c.requires.rest_of_branch.0 c.loop-k-test.true }
@@ -21,10 +21,7 @@ pub is_shared-requires : goal.is_shared-requires
 is_shared-requires c = record { lent = (lent_same c.loop-k.invariant.1 c.requires.lent, c.of-t.ensures); in_depths = c.requires.rest_of_branch.1 }
 
 pub returns-then-not-is_shared : goal.returns-then-not-is_shared
-returns-then-not-is_shared c = record { in_row = (c.loop-k.invariant.2, c.loop-k.invariant.3); row_goes_on = c.loop-k.invariant.0 }
-
-pub overflow_add-k-then-child-ne0 : goal.overflow_add-k-then-child-ne0
-overflow_add-k-then-child-ne0 c = omega (arith, small _ c.requires.lent.allowed)
+returns-then-not-is_shared c = record { in_row = (omega arith, omega arith); row_goes_on = c.loop-k.invariant.0 }
 
 pub set_word-requires : goal.set_word-requires
 set_word-requires c = record { lent = lent_same c.loop-k.invariant.1 c.requires.lent; has_word = child_place _ _ _ c.requires.rest_of_branch.0 c.loop-k-test.true }
@@ -40,18 +37,18 @@ loop-k-preserved c =
             _ _ _ _ _ c.loop-k.invariant.0 c.word-child.ensures _ _ (sym w.is_shared.ensures ∙ w.if-not-is_shared.false)
             w.set_word.ensures (w.a-is ∙ w.lessen.ensures),
         omega (arith, ap length w.a-is, w.lessen.auto.a, w.set_word.auto.a, c.loop-k.invariant.1),
-        omega (arith, c.loop-k.invariant.2),
-        omega (arith, c.loop-k-test.true),
       )
       | else-child-ne0 w ↦ (
         (λ x g.
             w.a-is ∙ none_turn _ _ _ _ (lent_same c.loop-k.invariant.1 c.requires.lent) c.requires.rest_of_branch.0
             c.loop-k-test.true _ _ _ _ _ c.loop-k.invariant.0 c.word-child.ensures w.if-child-ne0.false x g),
         omega (arith, ap length w.a-is, c.loop-k.invariant.1),
-        omega (arith, c.loop-k.invariant.2),
-        omega (arith, c.loop-k-test.true),
       )
     ]
 
+-- a row that was gone through to k has been gone through to n, where the two are one number
+goes-to : (f : ℕ → List ℕ → List ℕ) (z : Shape) (r m k n : ℕ) (a b : List ℕ) → RowGoesOn f z r m k a b → k ≤ n → n ≤ k → RowGoesOn f z r m n a b
+goes-to f z r m k n a b on l g = subst (λ (x : ℕ). RowGoesOn f z r m x a b) {x = k} {y = n} (omega arith) on
+
 pub returns : goal.returns
-returns c = record { in_row = (c.loop-k.invariant.2, c.loop-k.invariant.3); row_goes_on = c.loop-k.invariant.0 }
+returns c = record { in_row = (omega arith, omega arith); row_goes_on = goes-to _ _ _ _ _ _ _ _ c.loop-k.invariant.0 (omega arith) (omega (arith, c.loop-k-test.false)) }

@@ -1,11 +1,9 @@
 -- `releases::release_chain` meets its contract: what is left of the chain comes to the same as the whole. Assumes nothing.
 use mathlib.Core.Path.{◌≡◌}
+use Prim.Native.Nat.{◌-◌}
 use lib.ListN.{length}
 use Rattle.releases.specs.Releases.{chain_from}
 use Rattle.releases.proofs.release_chain.Given as given
 
-abbrev pub invariant-loop-left : given.invariant-loop-left
-invariant-loop-left l = (chain_from l.z l.z.entries l.front l.initial.a ≡ chain_from l.z l.left l.r l.a) × (length l.a ≡ length l.initial.a)
-
-abbrev pub decreases-loop-left : given.decreases-loop-left
-decreases-loop-left l = l.left
+abbrev pub invariant-loop : given.invariant-loop
+invariant-loop l = (chain_from l.z l.z.entries l.front l.initial.a ≡ chain_from l.z (l.end - l.counter) l.r l.a) × (length l.a ≡ length l.initial.a)

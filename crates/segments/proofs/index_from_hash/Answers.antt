@@ -7,18 +7,18 @@ use Rattle.segments.proofs.index_from_hash.Goals as goal
 
 pub segment_at-requires : goal.segment_at-requires
 segment_at-requires c =
-    let found = sym c.degree_row.ensures ∙ c.in-Found.is in
-    (shift_below _ _ _ _ found _ c.if-depth-depths.true, (found_right _ _ _ _ found).few_bits)
+    let found = sym c.degree_row.ensures ∙ c.in-Some.is in
+    (shift_below _ _ _ _ found _ c.if-depth-row.true, (found_right _ _ _ _ found).few_bits)
 
-pub returns-then-depth-depths : goal.returns-then-depth-depths
-returns-then-depth-depths c =
-    let found = sym c.degree_row.ensures ∙ c.in-Found.is in
-    ap At c.segment_at.ensures ∙ sym (index_at _ _ _ _ found _ _ c.if-depth-depths.true)
+pub returns-then-depth-row : goal.returns-then-depth-row
+returns-then-depth-row c =
+    let found = sym c.degree_row.ensures ∙ c.in-Some.is in
+    ap At c.segment_at.ensures ∙ sym (index_at _ _ _ _ found _ _ c.if-depth-row.true)
 
-pub returns-else-depth-depths : goal.returns-else-depth-depths
-returns-else-depth-depths c =
-    let found = sym c.degree_row.ensures ∙ c.in-Found.is in
-    sym (index_Exhausted _ _ _ _ found _ _ c.if-depth-depths.false)
+pub returns-else-depth-row : goal.returns-else-depth-row
+returns-else-depth-row c =
+    let found = sym c.degree_row.ensures ∙ c.in-Some.is in
+    sym (index_Exhausted _ _ _ _ found _ _ c.if-depth-row.false)
 
-pub returns-in-NotInTable : goal.returns-in-NotInTable
-returns-in-NotInTable c = sym (index_no_degree _ _ _ (sym c.degree_row.ensures ∙ c.in-NotInTable.is))
+pub returns-in_default : goal.returns-in_default
+returns-in_default c = sym (index_no_degree _ _ _ (sym c.degree_row.ensures ∙ c.in_default.is))

@@ -6,10 +6,10 @@ use Rattle.checks.proofs.JudgeLaws.{no_header}
 use Rattle.shelf.proofs.check.Goals as goal
 
 pub check-requires : goal.check-requires
-check-requires c = (Header-says _ _).0 (sym c.read.ensures ∙ c.in-Right.is)
+check-requires c = (Header-says _ _).0 (sym c.read.ensures ∙ c.in-Some.is)
 
-pub returns-in-Right : goal.returns-in-Right
-returns-in-Right c = c.check.ensures
+pub returns : goal.returns
+returns c = c.check.ensures
 
-pub returns-in-Wrong : goal.returns-in-Wrong
-returns-in-Wrong c = wrong_header (no_header _ (sym c.read.ensures ∙ c.in-Wrong.is))
+pub returns-in_default : goal.returns-in_default
+returns-in_default c = wrong_header (no_header _ (sym c.read.ensures ∙ c.in_default.is))

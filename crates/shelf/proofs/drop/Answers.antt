@@ -3,14 +3,14 @@
 use Rattle.drops.proofs.DropLaws.{drops}
 use Rattle.replies.proofs.AnswerLaws.{header_Right, header_Wrong}
 use mathlib.Core.Path.{sym, ◌∙◌}
-use Rattle.layout.proofs.HeaderLaws.{Header-says, Header-Lent}
+use Rattle.layout.proofs.HeaderLaws.{header_Lent}
 use Rattle.shelf.proofs.drop.Goals as goal
 
 pub drop-requires : goal.drop-requires
-drop-requires c = Header-Lent _ _ ((Header-says _ _).0 (sym c.read.ensures ∙ c.in-Right.is))
+drop-requires c = header_Lent _ _ (sym c.read.ensures ∙ c.in-Some.is)
 
-pub returns-in-Right : goal.returns-in-Right
-returns-in-Right c = drops _ _ _ _ (c.drop.ensures ∙ sym (header_Right _ _ _ _ (sym c.read.ensures ∙ c.in-Right.is)))
+pub returns : goal.returns
+returns c = drops _ _ _ _ (c.drop.ensures ∙ sym (header_Right _ _ _ _ (sym c.read.ensures ∙ c.in-Some.is)))
 
-pub returns-in-Wrong : goal.returns-in-Wrong
-returns-in-Wrong c = drops _ _ _ _ (sym (header_Wrong _ _ _ (sym c.read.ensures ∙ c.in-Wrong.is)))
+pub returns-in_default : goal.returns-in_default
+returns-in_default c = drops _ _ _ _ (sym (header_Wrong _ _ _ (sym c.read.ensures ∙ c.in_default.is)))

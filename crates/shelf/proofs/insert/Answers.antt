@@ -3,15 +3,15 @@
 use Rattle.updates.proofs.UpdateLaws.{inserts}
 use Rattle.replies.proofs.AnswerLaws.{header_Right, header_Wrong}
 use mathlib.Core.Path.{sym, ◌∙◌}
-use Rattle.layout.proofs.HeaderLaws.{Header-says, Header-Lent}
+use Rattle.layout.proofs.HeaderLaws.{header_Lent}
 use native.Mathlib.Omega.{arith}
 use Rattle.shelf.proofs.insert.Goals as goal
 
 pub insert-requires : goal.insert-requires
-insert-requires c = Header-Lent _ _ ((Header-says _ _).0 (sym c.read.ensures ∙ c.in-Right.is))
+insert-requires c = header_Lent _ _ (sym c.read.ensures ∙ c.in-Some.is)
 
-pub returns-in-Right : goal.returns-in-Right
-returns-in-Right c = inserts _ _ _ _ _ (record { hash_fits = omega arith; key_fits = omega arith; value_fits = omega arith }) _ _ (c.insert.ensures ∙ sym (header_Right _ _ _ _ (sym c.read.ensures ∙ c.in-Right.is)))
+pub returns : goal.returns
+returns c = inserts _ _ _ _ _ (record { hash_fits = omega arith; key_fits = omega arith; value_fits = omega arith }) _ _ (c.insert.ensures ∙ sym (header_Right _ _ _ _ (sym c.read.ensures ∙ c.in-Some.is)))
 
-pub returns-in-Wrong : goal.returns-in-Wrong
-returns-in-Wrong c = inserts _ _ _ _ _ (record { hash_fits = omega arith; key_fits = omega arith; value_fits = omega arith }) _ _ (sym (header_Wrong _ _ _ (sym c.read.ensures ∙ c.in-Wrong.is)))
+pub returns-in_default : goal.returns-in_default
+returns-in_default c = inserts _ _ _ _ _ (record { hash_fits = omega arith; key_fits = omega arith; value_fits = omega arith }) _ _ (sym (header_Wrong _ _ _ (sym c.read.ensures ∙ c.in_default.is)))

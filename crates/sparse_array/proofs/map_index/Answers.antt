@@ -2,7 +2,7 @@
 use mathlib.Core.Path.{sym, ap, ◌∙◌}
 use Prim.Native.Nat.{◌<◌}
 use native.Mathlib.Omega.{arith}
-use Rattle.sparse_array.specs.declared.Place.TheVariants.{At}
+use Rattle.std.specs.Prelude.{Ok, Some}
 use Rattle.sparse_array.proofs.Bitmap.{mask_clear, mask_set}
 use Rattle.sparse_array.proofs.Places.{place_Refused, place_Nothing, place_at}
 use Rattle.sparse_array.proofs.map_index.Goals as goal
@@ -20,4 +20,4 @@ pub returns : goal.returns
 returns c =
     let a = c.args in
     let h : a.index < 64 = omega arith in
-    ap At c.rank.ensures ∙ sym (place_at a.bitmap a.index h (mask_set a.bitmap a.index h c.if-bitmap-index-eq0.false))
+    ap (λ k. Ok (Some k)) c.rank.ensures ∙ sym (place_at a.bitmap a.index h (mask_set a.bitmap a.index h c.if-bitmap-index-eq0.false))

@@ -13,36 +13,36 @@ use native.Mathlib.Omega.{arith}
 use Rattle.tallies.proofs.are_counts_of.Goals as goal
 
 pub loop-i-init : goal.loop-i-init
-loop-i-init c = counts_start _ _ _ _ _ c.cells_of-cells.ensures
+loop-i-init c = counts_start _ _ _ _ _ c.cells_of-i-end.ensures
 
 pub overflow_mul-r : goal.overflow_mul-r
 overflow_mul-r c =
     let few : c.loop-i.i < 4194304 = let w = cells_few c.args.z c.args.kind c.requires.lent.allowed in
-    omega (arith, c.loop-i-test.true, c.cells_of-cells.ensures, w) in
+    omega (arith, c.loop-i-test.true, c.cells_of-i-end.ensures, w) in
     omega (arith, few)
 
 pub overflow_add-r : goal.overflow_add-r
 overflow_add-r c =
     let few : c.loop-i.i < 4194304 = let w = cells_few c.args.z c.args.kind c.requires.lent.allowed in
-    omega (arith, c.loop-i-test.true, c.cells_of-cells.ensures, w) in
+    omega (arith, c.loop-i-test.true, c.cells_of-i-end.ensures, w) in
     omega (arith, few)
 
 pub overflow_add-r-in-loop-i : goal.overflow_add-r-in-loop-i
 overflow_add-r-in-loop-i c =
     let few : c.loop-i.i < 4194304 = let w = cells_few c.args.z c.args.kind c.requires.lent.allowed in
-    omega (arith, c.loop-i-test.true, c.cells_of-cells.ensures, w) in
+    omega (arith, c.loop-i-test.true, c.cells_of-i-end.ensures, w) in
     omega (arith, few)
 
 pub work_at-requires : goal.work_at-requires
 work_at-requires c =
     let named : let s = c.args in names s.z (reference s.kind c.loop-i.i) ≡ true = names_of c.args.z c.args.kind c.loop-i.i c.requires.is_kind
-    (omega (arith, c.loop-i-test.true, c.cells_of-cells.ensures)) in
+    (omega (arith, c.loop-i-test.true, c.cells_of-i-end.ensures)) in
     record { allowed = c.requires.lent.allowed; is_cell = named }
 
 pub offset_bounds-work-work_at : goal.offset_bounds-work-work_at
 offset_bounds-work-work_at c =
     let named : let s = c.args in names s.z (reference s.kind c.loop-i.i) ≡ true = names_of c.args.z c.args.kind c.loop-i.i c.requires.is_kind
-    (omega (arith, c.loop-i-test.true, c.cells_of-cells.ensures)) in
+    (omega (arith, c.loop-i-test.true, c.cells_of-i-end.ensures)) in
     let inside : c.work_at.result < work_words c.args.z = omega (arith, c.work_at.ensures, work_below _ _ (named)) in
     let k = c.requires.lent.allowed in
     omega (arith, inside, k.few_branches, k.few_entries)
@@ -50,14 +50,14 @@ offset_bounds-work-work_at c =
 pub bounds-work-work_at : goal.bounds-work-work_at
 bounds-work-work_at c =
     let named : let s = c.args in names s.z (reference s.kind c.loop-i.i) ≡ true = names_of c.args.z c.args.kind c.loop-i.i c.requires.is_kind
-    (omega (arith, c.loop-i-test.true, c.cells_of-cells.ensures)) in
+    (omega (arith, c.loop-i-test.true, c.cells_of-i-end.ensures)) in
     let inside : c.work_at.result < work_words c.args.z = omega (arith, c.work_at.ensures, work_below _ _ (named)) in
     omega (arith, inside, c.requires.work_fits)
 
 pub word-requires : goal.word-requires
 word-requires c =
     let named : let s = c.args in names s.z (reference s.kind c.loop-i.i) ≡ true = names_of c.args.z c.args.kind c.loop-i.i c.requires.is_kind
-    (omega (arith, c.loop-i-test.true, c.cells_of-cells.ensures)) in
+    (omega (arith, c.loop-i-test.true, c.cells_of-i-end.ensures)) in
     record { lent = c.requires.lent; has_word = has_low _ _ _ (named) (omega arith) }
 
 pub returns-then-work-work_at : goal.returns-then-work-work_at

@@ -8,7 +8,4 @@ use Rattle.tallies.proofs.CountsLaws.{count_is}
 use Rattle.tallies.proofs.are_counts_of.Given as given
 
 abbrev pub invariant-loop-i : given.invariant-loop-i
-invariant-loop-i l = (counts_of l.z (columns l.z l.a) l.work l.kind ≡ all_from (count_is l.z (columns l.z l.a) l.work l.kind) l.i (l.cells - l.i))
-
-abbrev pub decreases-loop-i : given.decreases-loop-i
-decreases-loop-i l = l.cells - l.i
+invariant-loop-i l = counts_of l.z (columns l.z l.a) l.work l.kind ≡ all_from (count_is l.z (columns l.z l.a) l.work l.kind) l.i (l.i-end - l.i)

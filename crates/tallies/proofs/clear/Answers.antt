@@ -1,19 +1,12 @@
-use mathlib.Core.Path.{refl}
-use Rattle.tallies.proofs.WorkLaws.{Zeros-none, Zeros-next, Zeros-all}
-use native.Mathlib.Omega.{arith}
+-- `tallies::clear` meets its contract: as many words in front as there are cells are written, all with 0. Assumes nothing.
+use Prim.Native.Nat.{ℕ}
+use mathlib.Core.Path.{ap, ◌∙◌}
+use lib.ListN.{replicate}
+use Rattle.std.proofs.lemmas.List.{length-take-le}
+use Rattle.tallies.proofs.WorkLaws.{Works-zeros}
 use Rattle.tallies.proofs.clear.Goals as goal
 
-pub loop-i-init : goal.loop-i-init
-loop-i-init c = Zeros-none _ _
-
-pub bounds-work-i : goal.bounds-work-i
-bounds-work-i c = omega (arith, c.loop-i.invariant.same_length)
-
-pub loop-i-preserved : goal.loop-i-preserved
-loop-i-preserved c = Zeros-next _ _ _ _ c.loop-i.invariant c.loop-i-test.true c.requires.work_fits
-
-pub shape_of-work : goal.shape_of-work
-shape_of-work c = c.loop-i.invariant.same_length
-
 pub returns : goal.returns
-returns c = Zeros-all _ _ _ _ _ refl c.loop-i.invariant c.loop-i-test.false
+returns c =
+    Works-zeros c.args.z c.args.work.now _ c.requires.work_fits
+    (c.fill.ensures.after (λ y e. e) ∙ ap (λ (n : ℕ). replicate n 0) (length-take-le _ c.args.work.now c.requires.work_fits))

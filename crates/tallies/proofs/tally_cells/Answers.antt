@@ -1,9 +1,9 @@
 use Prim.Native.Nat.{ℕ, ◌^◌, ◌≤◌, ◌<◌}
 use mathlib.Core.Path.{refl}
-use Rattle.layout.specs.Layout.{reference, cells_of}
+use Rattle.layout.specs.Layout.{reference}
 use Rattle.layout.specs.Columns.{columns}
 use Rattle.layout.proofs.OffsetLaws.{cells_few}
-use Rattle.tallies.proofs.WorkLaws.{Adds-none_yet, Adds-next, Adds-done, cells_low, Works-long}
+use Rattle.tallies.proofs.WorkLaws.{Adds-none_yet, Adds-next, cells_low, Works-long}
 use native.Mathlib.Omega.{arith}
 use Rattle.tallies.proofs.tally_cells.Invariants.{held}
 use Rattle.tallies.proofs.tally_cells.Goals as goal
@@ -11,57 +11,44 @@ use Rattle.tallies.proofs.tally_cells.Goals as goal
 pub loop-i-init : goal.loop-i-init
 loop-i-init c =
     let s = c.args in
-    (omega arith, Adds-none_yet s.z (held s.z s.a.now s.kind s.kids) s.work.now)
+    Adds-none_yet s.z (held s.z s.a.now s.kind s.kids) s.work.now
 
 pub overflow_mul-i : goal.overflow_mul-i
 overflow_mul-i c =
     let few : c.loop-i.i < 4194304 = let w = cells_few c.args.z c.args.kind c.requires.lent.allowed in
-    omega (arith, c.loop-i-test.true, c.cells_of-cells.ensures, w) in
+    omega (arith, c.loop-i-test.true, c.cells_of-i-end.ensures, w) in
     omega (arith, few)
 
 pub overflow_add-i : goal.overflow_add-i
 overflow_add-i c =
     let few : c.loop-i.i < 4194304 = let w = cells_few c.args.z c.args.kind c.requires.lent.allowed in
-    omega (arith, c.loop-i-test.true, c.cells_of-cells.ensures, w) in
+    omega (arith, c.loop-i-test.true, c.cells_of-i-end.ensures, w) in
     omega (arith, few)
 
 pub overflow_add-i-in-loop-i : goal.overflow_add-i-in-loop-i
 overflow_add-i-in-loop-i c =
     let few : c.loop-i.i < 4194304 = let w = cells_few c.args.z c.args.kind c.requires.lent.allowed in
-    omega (arith, c.loop-i-test.true, c.cells_of-cells.ensures, w) in
-    omega (arith, few, c.requires.low.2)
+    omega (arith, c.loop-i-test.true, c.cells_of-i-end.ensures, w) in
+    omega (arith, few, c.requires.is_kind)
 
 pub tally_cell-requires : goal.tally_cell-requires
 tally_cell-requires c =
     let few : c.loop-i.i < 4194304 = let w = cells_few c.args.z c.args.kind c.requires.lent.allowed in
-    omega (arith, c.loop-i-test.true, c.cells_of-cells.ensures, w) in
+    omega (arith, c.loop-i-test.true, c.cells_of-i-end.ensures, w) in
     let s = c.args in
     let l = c.loop-i in
     let f : ℕ → ℕ → ℕ = λ j. (columns s.z s.a.now).kid (reference s.kind j) in
     let i : l.i ≤ 4194304 = omega (arith, few) in
-    let few_kids = c.requires.low.1 in
+    let few_kids = c.requires.few_kids in
     let low =
-    cells_low s.z f l.i s.kids (2 ^ 40) (2 ^ 50) s.work.now l.work c.requires.low.0 l.invariant.1 i few_kids
+    cells_low s.z f l.i s.kids (2 ^ 40) (2 ^ 50) s.work.now l.work c.requires.low l.invariant i few_kids
     (omega arith)
     in
-    record { lent = c.requires.lent; work_fits = Works-long s.z _ _ _ l.invariant.1 c.requires.work_fits; low = (low, few_kids) }
+    record { lent = c.requires.lent; work_fits = Works-long s.z _ _ _ l.invariant c.requires.work_fits; low = low; few_kids = few_kids }
 
 pub loop-i-preserved : goal.loop-i-preserved
 loop-i-preserved c =
     let s = c.args in
-    let l = c.loop-i in (
-      omega (arith, c.loop-i-test.true),
-      Adds-next s.z (held s.z s.a.now s.kind s.kids) _ l.i s.work.now l.work _ l.invariant.1
-          c.tally_cell.ensures (λ q. refl),
-    )
-
-pub shape_of-work : goal.shape_of-work
-shape_of-work c = c.loop-i.invariant.1.same_length
-
-pub returns : goal.returns
-returns c =
-    let s = c.args in
     let l = c.loop-i in
-    let e = c.cells_of-cells.ensures in
-    Adds-done s.z (held s.z s.a.now s.kind s.kids) l.i (cells_of s.z s.kind) s.work.now l.work
-    (omega (arith, l.invariant.0)) (omega (arith, c.loop-i-test.false)) l.invariant.1
+    Adds-next s.z (held s.z s.a.now s.kind s.kids) _ l.i s.work.now l.work _ l.invariant
+    c.tally_cell.ensures (λ q. refl)

@@ -1,6 +1,5 @@
--- `tallies::tally_cells` meets its contract. The loop's invariant: the first `i` cells are tallied. The measure is how many are
--- left. Assumes nothing.
-use Prim.Native.Nat.{ℕ, ◌-◌, ◌≤◌}
+-- `tallies::tally_cells` meets its contract. The loop's invariant: the first `i` cells are tallied. Assumes nothing.
+use Prim.Native.Nat.{ℕ}
 use mathlib.Core.List.{List}
 use Rattle.counts.specs.Counts.{sum_to, times}
 use Rattle.layout.specs.declared.Shape.{Shape}
@@ -14,7 +13,4 @@ abbrev pub held : Shape → List ℕ → ℕ → ℕ → ℕ → ℕ → ℕ
 held z a kind kids q j = times kids ((columns z a).kid (reference kind j)) q
 
 abbrev pub invariant-loop-i : given.invariant-loop-i
-invariant-loop-i l = (l.i ≤ l.cells) × Adds l.z (λ q. sum_to l.i (held l.z l.a l.kind l.kids q)) l.initial.work l.work
-
-abbrev pub decreases-loop-i : given.decreases-loop-i
-decreases-loop-i l = l.cells - l.i
+invariant-loop-i l = Adds l.z (λ q. sum_to l.i (held l.z l.a l.kind l.kids q)) l.initial.work l.work

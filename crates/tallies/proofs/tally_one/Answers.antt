@@ -1,18 +1,12 @@
 -- `tallies::tally_one` meets its contract: one more where the reference names a cell, and nothing else. Assumes nothing.
-use Prim.Native.Nat.{ℕ, ◌<◌}
-use mathlib.Core.Path.{◌≡◌, sym, ap, ◌∙◌}
+use Prim.Native.Nat.{◌<◌}
+use mathlib.Core.Path.{◌≡◌, sym, ◌∙◌}
 use mathlib.Core.Bool.{true}
-use lib.ListN.{get_or}
 use Rattle.layout.specs.Layout.{names}
 use Rattle.tallies.specs.Tallies.{work_words}
 use Rattle.tallies.proofs.WorkLaws.{work_below, adds_one, Adds-no_cell}
 use native.Mathlib.Omega.{arith}
 use Rattle.tallies.proofs.tally_one.Goals as goal
-
-pub work_at-i-requires : goal.work_at-i-requires
-work_at-i-requires c =
-    let named : names c.args.z c.args.r ≡ true = sym c.is_cell.ensures ∙ c.if-is_cell.true in
-    record { allowed = c.requires.allowed; is_cell = named }
 
 pub offset_bounds-work-i : goal.offset_bounds-work-i
 offset_bounds-work-i c =
@@ -26,12 +20,6 @@ bounds-work-i c =
     let named : names c.args.z c.args.r ≡ true = sym c.is_cell.ensures ∙ c.if-is_cell.true in
     let inside : c.work_at-i.result < work_words c.args.z = omega (arith, c.work_at-i.ensures, work_below c.args.z c.args.r (named)) in
     omega (arith, inside, c.requires.work_fits)
-
-pub overflow_add-work : goal.overflow_add-work
-overflow_add-work c =
-    let named : names c.args.z c.args.r ≡ true = sym c.is_cell.ensures ∙ c.if-is_cell.true in
-    let e = ap (λ (x : ℕ). get_or c.args.work.now x 0) c.work_at-i.ensures in
-    omega (arith, c.requires.low c.args.r (named), e)
 
 pub bounds-work-i-then-is_cell : goal.bounds-work-i-then-is_cell
 bounds-work-i-then-is_cell c =

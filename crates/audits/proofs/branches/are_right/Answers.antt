@@ -7,13 +7,7 @@ use Rattle.audits.proofs.branches.are_right.Goals as goal
 
 pub loop-i-init : goal.loop-i-init
 unfolding branches_right
-loop-i-init c = (all_first _ _, omega arith)
-
-pub overflow_mul-i : goal.overflow_mul-i
-overflow_mul-i c = omega (arith, c.loop-i-test.true, c.requires.allowed.few_branches)
-
-pub overflow_add-i : goal.overflow_add-i
-overflow_add-i c = omega (arith, c.loop-i-test.true, c.requires.allowed.few_branches)
+loop-i-init c = all_first _ _
 
 pub is_right-requires : goal.is_right-requires
 is_right-requires c = record { lent = c.requires; is_branch = branch_cell _ _ _ c.loop-i-test.true (omega arith) }
@@ -22,18 +16,16 @@ pub returns-then-not-is_right : goal.returns-then-not-is_right
 returns-then-not-is_right c =
     let l = c.loop-i in
     sym
-    (l.invariant.0
+    (l.invariant
     ∙ cells_stop (branch_right _ _) 0 _ _ _ _ c.loop-i-test.true (omega arith) c.is_right.ensures
     (c.if-not-is_right.true))
 
 pub loop-i-preserved : goal.loop-i-preserved
 loop-i-preserved c =
-    let l = c.loop-i in (
-      l.invariant.0
-          ∙ cells_on (branch_right _ _) 0 _ _ _ _ c.loop-i-test.true (omega arith) c.is_right.ensures
-          (c.if-not-is_right.false),
-      omega (arith, c.loop-i-test.true),
-    )
+    let l = c.loop-i in
+    l.invariant
+    ∙ cells_on (branch_right _ _) 0 _ _ _ _ c.loop-i-test.true (omega arith) c.is_right.ensures
+    (c.if-not-is_right.false)
 
 pub returns : goal.returns
-returns c = sym (c.loop-i.invariant.0 ∙ all_over _ _ _ c.loop-i-test.false)
+returns c = sym (c.loop-i.invariant ∙ all_over _ _ _ c.loop-i-test.false)

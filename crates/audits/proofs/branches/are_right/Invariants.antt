@@ -1,5 +1,5 @@
 -- `audits::branches::are_right` meets its contract: what is left of the branches decides as all do. Assumes nothing.
-use Prim.Native.Nat.{◌-◌, ◌≤◌}
+use Prim.Native.Nat.{◌-◌}
 use mathlib.Core.Path.{◌≡◌}
 use Rattle.layout.specs.Layout.{reference}
 use Rattle.layout.specs.Columns.{columns}
@@ -7,8 +7,4 @@ use Rattle.audits.specs.Audits.{all_from, branch_right, branches_right}
 use Rattle.audits.proofs.branches.are_right.Given as given
 
 abbrev pub invariant-loop-i : given.invariant-loop-i
-invariant-loop-i l = (branches_right l.z (columns l.z l.a) ≡ all_from (λ j. branch_right l.z (columns l.z l.a) (reference 0 j)) l.i (l.z.branches - l.i)) ×
-    (l.i ≤ l.z.branches)
-
-abbrev pub decreases-loop-i : given.decreases-loop-i
-decreases-loop-i l = l.z.branches - l.i
+invariant-loop-i l = branches_right l.z (columns l.z l.a) ≡ all_from (λ j. branch_right l.z (columns l.z l.a) (reference 0 j)) l.i (l.z.branches - l.i)

@@ -1,34 +1,25 @@
-use mathlib.Core.Path.{refl, sym, ◌∙◌}
-use native.Mathlib.Omega.{arith}
+use mathlib.Core.Path.{sym, ◌∙◌}
 use Rattle.layout.specs.Columns.{columns}
 use Rattle.audits.proofs.AllLaws.{all_over}
 use Rattle.audits.proofs.StepLaws.{none_on, none_stops}
 use Rattle.audits.proofs.branches.has_none_from.Goals as goal
-
-pub loop-k-init : goal.loop-k-init
-loop-k-init c = (refl, c.requires.in_row)
-
-pub kid-requires : goal.kid-requires
-kid-requires c = c.requires.lent
 
 pub returns-then-kid-ne0 : goal.returns-then-kid-ne0
 returns-then-kid-ne0 c =
     let s = c.args in
     let l = c.loop-k in
     sym
-    (l.invariant.0
+    (l.invariant
     ∙ none_stops ((columns s.z s.a.now).kid s.r) _ _ _ c.loop-k-test.true c.kid.ensures
     c.if-kid-ne0.true)
 
 pub loop-k-preserved : goal.loop-k-preserved
 loop-k-preserved c =
     let s = c.args in
-    let l = c.loop-k in (
-      l.invariant.0
-          ∙ none_on ((columns s.z s.a.now).kid s.r) _ _ _ c.loop-k-test.true c.kid.ensures
-          c.if-kid-ne0.false,
-      omega (arith, c.loop-k-test.true),
-    )
+    let l = c.loop-k in
+    l.invariant
+    ∙ none_on ((columns s.z s.a.now).kid s.r) _ _ _ c.loop-k-test.true c.kid.ensures
+    c.if-kid-ne0.false
 
 pub returns : goal.returns
-returns c = sym (c.loop-k.invariant.0 ∙ all_over _ _ _ c.loop-k-test.false)
+returns c = sym (c.loop-k.invariant ∙ all_over _ _ _ c.loop-k-test.false)

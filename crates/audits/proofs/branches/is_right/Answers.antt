@@ -1,6 +1,7 @@
 -- `audits::branches::is_right` meets its contract: the count tells what is asked of the cell. Assumes nothing.
 use mathlib.Core.Path.{sym, ◌∙◌}
 use native.Mathlib.Omega.{arith}
+use borrow.Author.Tests.{ne_eqb}
 use Rattle.layout.proofs.ColumnLaws.{has_low}
 use Rattle.lookup.proofs.FindLaws.{kind_says}
 use Rattle.audits.proofs.StepLaws.{bitmap_word, branch_used, branch_marked, branch_empty}
@@ -18,18 +19,15 @@ returns-then-word-ne0 c = branch_used _ _ _ _ c.word.ensures _ c.if-word-ne0.tru
 pub word-requires-2 : goal.word-requires-2
 word-requires-2 c = record { lent = c.requires.lent; has_word = has_low _ _ _ (kind_says _ _ _ c.requires.is_branch).0 (omega arith) }
 
-pub returns-then-word-ne0-2 : goal.returns-then-word-ne0-2
-returns-then-word-ne0-2 c =
+pub returns-else-word-eq0 : goal.returns-else-word-eq0
+returns-else-word-eq0 c =
     let bitmap = c.word-2.ensures ∙ bitmap_word _ _ _ c.requires.is_branch in
-    sym (branch_marked _ _ _ _ c.word.ensures _ c.if-word-ne0.false bitmap
-    c.if-word-ne0-2.true)
+    rw (ne_eqb c.word-2.result 0 c.if-word-eq0.false)
+    (sym (branch_marked _ _ _ _ c.word.ensures _ c.if-word-ne0.false bitmap c.if-word-eq0.false))
 
-pub has_none_from-requires : goal.has_none_from-requires
-has_none_from-requires c = record { lent = c.requires.lent; in_row = omega arith }
-
-pub returns : goal.returns
-returns c =
+pub returns-then-word-eq0 : goal.returns-then-word-eq0
+returns-then-word-eq0 c =
     let bitmap = c.word-2.ensures
     ∙ bitmap_word _ _ _ c.requires.is_branch in
     branch_empty _ _ _ _ c.word.ensures _ _ c.if-word-ne0.false bitmap
-    c.if-word-ne0-2.false c.has_none_from.ensures
+    c.if-word-eq0.true c.has_none_from.ensures

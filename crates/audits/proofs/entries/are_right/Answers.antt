@@ -9,13 +9,7 @@ use Rattle.audits.proofs.entries.are_right.Goals as goal
 
 pub loop-i-init : goal.loop-i-init
 unfolding entries_right
-loop-i-init c = (all_first _ _, omega arith, λ j l. absurd (omega arith))
-
-pub overflow_mul-i : goal.overflow_mul-i
-overflow_mul-i c = omega (arith, c.loop-i-test.true, c.requires.allowed.few_entries)
-
-pub overflow_add-i : goal.overflow_add-i
-overflow_add-i c = omega (arith, c.loop-i-test.true, c.requires.allowed.few_entries)
+loop-i-init c = record { right = all_first _ _; fit = λ j l. absurd (omega arith) }
 
 pub is_right-requires : goal.is_right-requires
 is_right-requires c = record { lent = c.requires; is_entry = entry_cell _ _ _ c.loop-i-test.true (omega arith) }
@@ -24,7 +18,7 @@ pub returns-then-not-is_right : goal.returns-then-not-is_right
 returns-then-not-is_right c =
     let l = c.loop-i in
     let wrong
-    = l.invariant.0
+    = l.invariant.right
     ∙ cells_stop (entry_right _ _) 1 _ _ _ _ c.loop-i-test.true (omega arith) c.is_right.ensures.answers
     (c.if-not-is_right.true) in
     record { answers = sym wrong; entries_fit = λ e. let n : ◌≡◌ {A = ℕ} 0 1 = cc in absurd (omega arith) }
@@ -32,15 +26,15 @@ returns-then-not-is_right c =
 pub loop-i-preserved : goal.loop-i-preserved
 loop-i-preserved c =
     let s = c.args in
-    let l = c.loop-i in (
-      l.invariant.0
+    let l = c.loop-i in
+    record {
+      right = l.invariant.right
           ∙ cells_on (entry_right _ _) 1 _ _ _ _ c.loop-i-test.true (omega arith) c.is_right.ensures.answers
-          (c.if-not-is_right.false),
-      omega (arith, c.loop-i-test.true),
-      fits_on (columns s.z s.a.now) l.i (2 * l.i + 3) (omega arith) c.is_right.ensures.word64 l.invariant.2,
-    )
+          (c.if-not-is_right.false);
+      fit = fits_on (columns s.z s.a.now) l.i (2 * l.i + 3) (omega arith) c.is_right.ensures.word64 l.invariant.fit;
+    }
 
 pub returns : goal.returns
 returns c =
     let l = c.loop-i in
-    record { answers = sym (l.invariant.0 ∙ all_over _ _ _ c.loop-i-test.false); entries_fit = λ e j m. l.invariant.2 j (omega (arith, c.loop-i-test.false)) }
+    record { answers = sym (l.invariant.right ∙ all_over _ _ _ c.loop-i-test.false); entries_fit = λ e j m. l.invariant.fit j (omega (arith, c.loop-i-test.false)) }

@@ -21,18 +21,12 @@ word-value-requires c = record { lent = c.requires.lent; has_word = has_part _ _
 pub word-requires : goal.word-requires
 word-requires c = record { lent = c.requires.lent; has_word = has_part _ _ _ c.requires.is_entry (omega arith) }
 
-pub is_linked-requires : goal.is_linked-requires
-is_linked-requires c = record { lent = c.requires.lent; is_entry = c.requires.is_entry }
-
 pub returns-then-word-ne0 : goal.returns-then-word-ne0
 returns-then-word-ne0 c =
     let fits : let s = c.args in Word64 (entry_at (columns s.z s.a.now) s.r) = entry_fits _ _ _ _ _ _ c.requires.is_entry c.word-hash.ensures
     c.word-key.ensures
     c.word-value.ensures c.word-hash.type_inv c.word-key.type_inv c.word-value.type_inv in
     record { answers = entry_used _ _ _ _ c.word.ensures _ c.if-word-ne0.true c.is_linked.ensures; word64 = fits }
-
-pub kid-requires : goal.kid-requires
-kid-requires c = c.requires.lent
 
 pub returns-then-kid-ne0 : goal.returns-then-kid-ne0
 returns-then-kid-ne0 c =

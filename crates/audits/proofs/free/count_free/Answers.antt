@@ -6,20 +6,20 @@ use Rattle.layout.specs.Columns.{columns}
 use Rattle.layout.proofs.OffsetLaws.{cells_few}
 use Rattle.layout.proofs.ColumnLaws.{has_low}
 use Rattle.lookup.proofs.FindLaws.{kind_says}
-use Rattle.audits.proofs.StepLaws.{cell_named, few_free, count_free, count_used, count_all}
+use Rattle.audits.proofs.StepLaws.{cell_named, few_free, count_free, count_used}
 use Rattle.audits.proofs.free.count_free.Goals as goal
 use Rattle.audits.proofs.free.count_free.Goals.{then-word-eq0, else-word-eq0}
 
 pub loop-i-init : goal.loop-i-init
 unfolding sum_to
-loop-i-init c = (refl, omega arith)
+loop-i-init c = refl
 
 pub overflow_mul-i : goal.overflow_mul-i
 overflow_mul-i c =
     let few : c.loop-i.i < 4194304 = omega (
       arith,
       c.loop-i-test,
-      c.cells_of-cells.ensures,
+      c.cells_of-i-end.ensures,
       cells_few c.args.z c.args.kind
           c.requires.lent.allowed,
     ) in
@@ -30,7 +30,7 @@ overflow_add-i c =
     let few : c.loop-i.i < 4194304 = omega (
       arith,
       c.loop-i-test,
-      c.cells_of-cells.ensures,
+      c.cells_of-i-end.ensures,
       cells_few c.args.z c.args.kind
           c.requires.lent.allowed,
     ) in
@@ -41,7 +41,7 @@ overflow_add-i-in-loop-i c =
     let few : c.loop-i.i < 4194304 = omega (
       arith,
       c.loop-i-test,
-      c.cells_of-cells.ensures,
+      c.cells_of-i-end.ensures,
       cells_few c.args.z c.args.kind
           c.requires.lent.allowed,
     ) in
@@ -51,7 +51,7 @@ pub word-requires : goal.word-requires
 word-requires c =
     let named
     = cell_named c.args.z c.args.kind c.loop-i.i _ c.requires.is_kind
-    (omega (arith, c.loop-i-test, c.cells_of-cells.ensures)) refl in
+    (omega (arith, c.loop-i-test, c.cells_of-i-end.ensures)) refl in
     record { lent = c.requires.lent; has_word = has_low _ _ _ (kind_says _ _ _ named).0 (omega arith) }
 
 pub overflow_add-n : goal.overflow_add-n
@@ -59,43 +59,20 @@ overflow_add-n c =
     let few : c.loop-i.i < 4194304 = omega (
       arith,
       c.loop-i-test,
-      c.cells_of-cells.ensures,
+      c.cells_of-i-end.ensures,
       cells_few c.args.z c.args.kind
           c.requires.lent.allowed,
     ) in
     let s = c.args in
     let l = c.loop-i in
-    omega (arith, few, l.invariant.0, few_free (columns s.z s.a.now) s.kind l.i)
-
-pub overflow_add-i-in-loop-i-2 : goal.overflow_add-i-in-loop-i-2
-overflow_add-i-in-loop-i-2 c =
-    let few : c.loop-i.i < 4194304 = omega (
-      arith,
-      c.loop-i-test,
-      c.cells_of-cells.ensures,
-      cells_few c.args.z c.args.kind
-          c.requires.lent.allowed,
-    ) in
-    omega (arith, few)
+    omega (arith, few, l.invariant, few_free (columns s.z s.a.now) s.kind l.i)
 
 pub loop-i-preserved : goal.loop-i-preserved
 loop-i-preserved c =
     let s = c.args in
     let σ = columns s.z s.a.now in
-    let l = c.loop-i in (
-      elim c.if-word-eq0.branch [
-        | then-word-eq0 w ↦ count_free σ s.kind l.i _ _ _ refl c.word.ensures l.invariant.0 _ w.if-word-eq0.true w.n-is
-        | else-word-eq0 w ↦ count_used σ s.kind l.i _ _ _ refl c.word.ensures l.invariant.0 _ w.if-word-eq0.false w.n-is
-      ],
-      omega (arith, c.loop-i-test),
-    )
-
-pub loop-i-smaller : goal.loop-i-smaller
-loop-i-smaller c = omega (arith, c.loop-i-test)
-
-pub returns : goal.returns
-returns c =
-    let s = c.args in
     let l = c.loop-i in
-    count_all _ (columns s.z s.a.now) _ _ _ l.invariant.0
-    (omega (arith, c.loop-i-test, l.invariant.1, c.cells_of-cells.ensures))
+    elim c.if-word-eq0.branch [
+      | then-word-eq0 w ↦ count_free σ s.kind l.i _ _ _ refl c.word.ensures l.invariant _ w.if-word-eq0.true w.n-is
+      | else-word-eq0 w ↦ count_used σ s.kind l.i _ _ _ refl c.word.ensures l.invariant _ w.if-word-eq0.false w.n-is
+    ]

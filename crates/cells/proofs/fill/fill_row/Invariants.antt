@@ -1,12 +1,7 @@
 -- `cells::fill::fill_row` meets its contract: after k turns the first k words of the row are written. Assumes nothing.
-use Prim.Native.Nat.{◌-◌, ◌≤◌}
 use mathlib.Core.Path.{◌≡◌}
-use lib.ListN.{length}
 use Rattle.cells.specs.Mirrors.{listed, row_words}
 use Rattle.cells.proofs.fill.fill_row.Given as given
 
 abbrev pub invariant-loop-k : given.invariant-loop-k
-invariant-loop-k l = (l.a ≡ row_words l.z l.r (listed l.row) l.k l.initial.a) × (length l.a ≡ length l.initial.a) × (l.k ≤ l.z.degree)
-
-abbrev pub decreases-loop-k : given.decreases-loop-k
-decreases-loop-k l = l.z.degree - l.k
+invariant-loop-k l = l.a ≡ row_words l.z l.r (listed l.row) l.k l.initial.a

@@ -2,11 +2,8 @@
 -- nothing.
 use Rattle.cells.specs.Slots.{free_from, free_slot}
 use mathlib.Core.Path.{◌≡◌}
-use Prim.Native.Nat.{◌-◌, ◌≤◌}
+use Prim.Native.Nat.{◌-◌}
 use Rattle.cells.proofs.slots.lowest_free.Given as given
 
 abbrev pub invariant-loop-s : given.invariant-loop-s
-invariant-loop-s l = (free_slot l.z l.a ≡ free_from l.z l.a l.s (l.z.slots - l.s)) × (l.s ≤ l.z.slots)
-
-abbrev pub decreases-loop-s : given.decreases-loop-s
-decreases-loop-s l = l.z.slots - l.s
+invariant-loop-s l = free_slot l.z l.a ≡ free_from l.z l.a l.s (l.z.slots - l.s)

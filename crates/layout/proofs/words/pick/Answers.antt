@@ -1,9 +1,0 @@
--- `layout::words::pick` meets its contract: one test, two cases. Assumes nothing.
-use borrow.Author.Tests.{eq-eqb, ne_eqb}
-use Rattle.layout.proofs.words.pick.Goals as goal
-
-pub returns-then-kind-eq0 : goal.returns-then-kind-eq0
-returns-then-kind-eq0 c = simp (eq-eqb _ _ c.if-kind-eq0.true)
-
-pub returns-else-kind-eq0 : goal.returns-else-kind-eq0
-returns-else-kind-eq0 c = simp (ne_eqb _ _ c.if-kind-eq0.false)
