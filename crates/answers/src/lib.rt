@@ -13,7 +13,7 @@ ghost use Rattle.answers.specs.Lines.{digit_of, broken_of, kept_of, closed_of, l
 const MOST: usize = 8;
 
 // A line: its letter, its numbers in their order, and where the next line begins. An array with its count: no memory is asked
-// for while a line is read.
+// for while a line is read. The letter 0 and no `Option` where something is no number: `line_at` of specs/Lines says so.
 #[derive(Clone, Copy, Debug, PartialEq, Eq)]
 pub struct Line {
     pub letter: u8,
@@ -22,8 +22,9 @@ pub struct Line {
     pub next: usize,
 }
 
-// The numbers of a line as far as it was read: those that have ended, and the one that may have further digits.
-#[derive(Clone, Copy)]
+// The numbers of a line as far as it was read: those that have ended, and the one that may have further digits. `wrong` is a
+// flag and no `Result`: `broken_of` and `made_of` of specs/Lines, which say what a line means, have it as a field.
+#[derive(Clone, Copy, Debug, PartialEq, Eq)]
 struct Numbers {
     count: usize,
     values: [u64; 8],

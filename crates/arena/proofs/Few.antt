@@ -13,7 +13,7 @@ use Rattle.counts.proofs.CountLaws.{ind_same, ind_other, sum_ext, sum_le, sum_ad
 use Rattle.layout.specs.declared.Shape.{Shape}
 use Rattle.layout.specs.Layout.{reference, kind_of, cells_of}
 use Rattle.layout.specs.Columns.{State, columns, refs}
-use Rattle.trie.specs.Entry.{Entry}
+use Rattle.trie.specs.declared.Entry.{Entry}
 use Rattle.trie.specs.Trie.{Node, leaf, branch, Kids, none, kid, Item, Map, empty, root, size}
 use Rattle.trie.specs.Canon.{Above, Asc, AllKids, Some, Busy, AllItems, NonEmpty, Under, In, Canon, Canonical}
 use Rattle.trie.specs.Names.{cells, total, totals, branch_sum, entry_sum, on_map}

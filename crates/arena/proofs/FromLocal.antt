@@ -1,14 +1,7 @@
 -- What is sound in the local form is sound: what is reached is what has a count. Free slots and cells that are not reached hold
 -- no reference, so that counting over the whole arena counts the same words; and every cell is either reached or on its free chain.
-use Prim.Native.Nat.{ℕ, ◌+◌, ◌<◌}
-use mathlib.Core.Path.{◌≡◌, sym, ap, ◌∙◌}
-use mathlib.Core.Bool.{Bool, true, false, cond, ◌&&◌}
-use mathlib.Core.Logic.{⊎_elim}
-use mathlib.Core.List.{List}
-use native.Mathlib.Omega.{arith}
-use borrow.Author.Tests.{eq-eqb, ne_eqb, lt-ltb, le-ltb, ltb-true, ltb-false}
-use lib.Dec.{eqb, ltb}
-use lib.ListN.{length}
+use Rattle.std.proofs.lemmas.Bool.{both_ways}
+use Rattle.std.proofs.Common.{◌≡◌, ℕ, ◌+◌, ◌<◌, Bool, true, false, cond, ◌&&◌, eqb, ltb, List, length, sym, ap, ◌∙◌, ⊎_elim, arith, ltb-false, ltb-true, le-ltb, lt-ltb, eq-eqb, ne_eqb}
 use Rattle.cases.proofs.Cases.{split, eq?}
 use Rattle.counts.specs.Counts.{ind, sum_to, times, among}
 use Rattle.counts.proofs.CountLaws.{ind_same, ind_other, sum_ext, sum_zero, sum_add, length-among}
@@ -21,9 +14,6 @@ use Rattle.layout.proofs.OffsetLaws.{names_says}
 use Rattle.arena.proofs.RefLaws.{refs_inside, refs_out, names-refs}
 use Rattle.arena.proofs.LocalLaws.{live_cell}
 use Rattle.arena.proofs.Reach.{live_Reached, Reached-live}
-
-not_both : (b : Bool) → b ≡ true → b ≡ false → ⊥
-not_both b t f = let n : ◌≡◌ {A = ℕ} 0 1 = cc in omega arith
 
 -- words that name r, in held slots and reached cells and in all
 module _ (z : Shape) (σ : State) (reached : ℕ → Bool) where
@@ -66,8 +56,8 @@ module _ (z : Shape) (some : 0 < z.degree) (reached : ℕ → Bool) (free : ℕ 
       rw (eq-eqb (kind_of r) p e, ne_eqb (refs z r) 0 (λ w. omega (arith, (names-refs z some r).0 n)), c)
       (split (reached r) (λ t. rw t) (λ f. rw f)))
       (λ n.
-      let f : reached r ≡ false = split (reached r) (λ t. absurd (not_both (names z r) (cell_reached r t) n)) (λ f. f) in
-      let c : among (free p) r ≡ 0 = off_chain p r (λ t k. not_both (names z r) t n) in
+      let f : reached r ≡ false = split (reached r) (λ t. absurd (both_ways (names z r) n (cell_reached r t))) (λ f. f) in
+      let c : among (free p) r ≡ 0 = off_chain p r (λ t k. both_ways (names z r) n t) in
       rw (eq-eqb (kind_of r) p e, f, eq-eqb (refs z r) 0 (refs_out z r n)) (omega arith)))
       (λ ne. rw (ne_eqb (kind_of r) p ne) (omega (arith, off_chain p r (λ n. ne))))
       (eq? (kind_of r) p)

@@ -12,7 +12,7 @@ use Rattle.counts.proofs.CountLaws.{sum_at, sum_find, ind_pos}
 use Rattle.layout.specs.declared.Shape.{Shape}
 use Rattle.layout.specs.Layout.{kind_of}
 use Rattle.layout.specs.Columns.{State, refs}
-use Rattle.trie.specs.Entry.{Entry}
+use Rattle.trie.specs.declared.Entry.{Entry}
 use Rattle.trie.specs.Trie.{Node, leaf, branch, Kids, none, kid, Item, Map, empty, root}
 use Rattle.trie.specs.Canon.{AllKids, Some, Busy, Canon, Canonical}
 use Rattle.arena.specs.Shows.{behind, ShowsChain, Shows, ShowsRow, ShowsMap}

@@ -7,13 +7,12 @@ pub fn show(rt: &impl Print) -> io::Result<()> {
     println!(rt; "Free chains (degree 4, 3 branch cells, 4 entry cells)")?;
     let mut a = [0u64; 60];
     let _ = shelf::format(&mut a, 4, 3, 4, 1);
-    print!(rt;
+    println!(rt;
         "  branch cells: first {}; next in each {} {} {}",
         a[8], a[16], a[23], a[30]
     )?;
-    print!(rt;
-        "\n  entry cells: first {}; next in each {} {}",
-        a[9], a[37], a[43]
-    )?;
-    println!(rt; " {} {}", a[49], a[55])
+    println!(rt;
+        "  entry cells: first {}; next in each {} {} {} {}",
+        a[9], a[37], a[43], a[49], a[55]
+    )
 }

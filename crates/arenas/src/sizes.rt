@@ -2,7 +2,7 @@
 use shown::answer;
 use std::io;
 
-#[derive(Clone, Copy)]
+#[derive(Clone, Copy, Debug, PartialEq, Eq)]
 struct Sizes {
     branches: u64,
     entries: u64,
@@ -17,8 +17,7 @@ const ONES: Sizes = Sizes {
 
 fn format(rt: &impl Print, a: &mut [u64], n: u64, s: Sizes) -> io::Result<()> {
     let answer = shelf::format(a, 16, s.branches, s.entries, s.slots);
-    print::decimal(rt, b" ", n)?;
-    print::decimal(rt, b" answers ", answer::number(answer))
+    print!(rt; " {n} answers {}", answer::number(answer))
 }
 
 // None, one, as many as may be, and one more: `sizes` puts the number in its place, with 1 for the other two.
@@ -27,24 +26,23 @@ fn edges<F: Fn(u64) -> Sizes>(rt: &impl Print, a: &mut [u64], most: u64, sizes: 
 {
     format(rt, a, 0, sizes(0))?;
     for n in [1, most, most.saturating_add(1)] {
-        print::say(rt, b",")?;
+        print!(rt; ",")?;
         format(rt, a, n, sizes(n))?;
     }
-    print::say(rt, b"\n")
+    println!(rt;)
 }
 
 // All three sizes are the same, and no word is lent.
-fn first_fault(rt: &impl Print, name: &[u8], degree: u64, size: u64) -> io::Result<()> {
+fn first_fault(rt: &impl Print, degree: u64, size: u64) -> io::Result<()> {
     let mut a = [0u64; 1];
-    let answer = shelf::format(&mut a[..0], degree, size, size, size);
-    print::decimal(rt, name, answer::number(answer))?;
-    print::say(rt, b"\n")
+    let number = answer::number(shelf::format(&mut a[..0], degree, size, size, size));
+    println!(rt; "  degree {degree}, sizes {size}: answers {number}")
 }
 
 pub fn show(rt: &impl Print) -> io::Result<()> {
-    print::say(rt, b"Sizes (degree 16, the other two 1, 8192 words)\n")?;
+    println!(rt; "Sizes (degree 16, the other two 1, 8192 words)")?;
     let mut a = [0u64; 8192];
-    print::say(rt, b"  branch cells:")?;
+    print!(rt; "  branch cells:")?;
     edges(
         rt,
         &mut a,
@@ -54,12 +52,13 @@ pub fn show(rt: &impl Print) -> io::Result<()> {
             ..ONES
         },
     )?;
-    print::say(rt, b"  entry cells:")?;
+    print!(rt; "  entry cells:")?;
     edges(rt, &mut a, 4194304, |n| Sizes { entries: n, ..ONES })?;
-    print::say(rt, b"  edition slots:")?;
+    print!(rt; "  edition slots:")?;
     edges(rt, &mut a, 4096, |n| Sizes { slots: n, ..ONES })?;
-    print::say(rt, b"The first fault (no words)\n")?;
-    first_fault(rt, b"  degree 3, sizes 0: answers ", 3, 0)?;
-    first_fault(rt, b"  degree 16, sizes 0: answers ", 16, 0)?;
-    first_fault(rt, b"  degree 16, sizes 1: answers ", 16, 1)
+    println!(rt; "The first fault (no words)")?;
+    for (degree, size) in [(3, 0), (16, 0), (16, 1)] {
+        first_fault(rt, degree, size)?;
+    }
+    Ok(())
 }

@@ -8,9 +8,9 @@ use std::io;
 const MARK: u64 = 7;
 
 fn format_all(rt: &impl Print, a: &mut [u64], degree: u64) -> io::Result<()> {
-    print::decimal(rt, b" ", a.len() as u64)?;
+    print!(rt; " {}", a.len())?;
     let answer = shelf::format(a, degree, 1, 1, 1);
-    print::decimal(rt, b" words answer ", answer::number(answer))
+    print!(rt; " words answer {}", answer::number(answer))
 }
 
 fn format_first(rt: &impl Print, a: &mut [u64], n: usize, degree: u64) -> io::Result<()>
@@ -24,11 +24,11 @@ fn say_kept(rt: &impl Print, a: &[u64], n: usize) -> io::Result<()>
     requires { n ≤ length a.now }
 {
     let rest = &a[n..];
-    print::decimal(rt, b" (", rest.len() as u64)?;
+    print!(rt; " ({}", rest.len())?;
     if rest.iter().all(|word| *word == MARK) {
-        print::say(rt, b" still 7)")
+        print!(rt; " still 7)")
     } else {
-        print::say(rt, b" NOT ALL STILL 7)")
+        print!(rt; " NOT ALL STILL 7)")
     }
 }
 
@@ -39,31 +39,31 @@ fn around_total(rt: &impl Print, degree: u64) -> io::Result<()>
 {
     let total = 24 + degree as usize;
     let mut a = [MARK; 128];
-    print::decimal(rt, b"  degree ", degree)?;
-    print::say(rt, b":")?;
+    print!(rt; "  degree {degree}:")?;
     format_first(rt, &mut a, total - 1, degree)?;
     say_kept(rt, &a, 0)?;
-    print::say(rt, b",")?;
+    print!(rt; ",")?;
     format_first(rt, &mut a, total, degree)?;
     let mut b = [MARK; 128];
-    print::say(rt, b",")?;
+    print!(rt; ",")?;
     format_all(rt, &mut b, degree)?;
     say_kept(rt, &b, total)?;
-    print::say(rt, b"\n")
+    println!(rt;)
 }
 
 fn all_words(rt: &impl Print) -> io::Result<()> {
-    print::say(rt, b"The smallest arena of all, 26 words at degree 2\n")?;
+    println!(rt; "The smallest arena of all, 26 words at degree 2")?;
     let mut a = [MARK; 26];
     let _ = shelf::format(&mut a, 2, 1, 1, 1);
-    lent::say_part(rt, b"  header:", &a, 0, 12)?;
-    lent::say_part(rt, b"  slot:", &a, 12, 15)?;
-    lent::say_part(rt, b"  branch cell:", &a, 15, 20)?;
-    lent::say_part(rt, b"  entry cell:", &a, 20, 26)
+    lent::say_part(rt, "  header:", &a, 0, 12)?;
+    lent::say_part(rt, "  slot:", &a, 12, 15)?;
+    lent::say_part(rt, "  branch cell:", &a, 15, 20)?;
+    lent::say_part(rt, "  entry cell:", &a, 20, 26)
 }
 
 pub fn show(rt: &impl Print) -> io::Result<()> {
-    print::say(rt, b"Smallest arenas (all sizes 1, every word 7 before)\n")?;
+    println!(rt; "Smallest arenas (all sizes 1, every word 7 before)")?;
+    // No loop: `around_total` requires a degree of at most 64, which no proof found of an array's elements or of 1 << bits.
     around_total(rt, 2)?;
     around_total(rt, 4)?;
     around_total(rt, 8)?;

@@ -1,14 +1,8 @@
 -- A test of many numbers, by what it says of each and by the steps of a loop.
-use Prim.Native.Nat.{ℕ, zero, suc, ◌+◌, ◌-◌, ◌≤◌, ◌<◌}
-use mathlib.Core.Path.{◌≡◌, refl, sym, ap, ◌∙◌}
-use mathlib.Core.Bool.{Bool, true, false}
-use mathlib.Core.Logic.{⊎_elim}
-use native.Mathlib.Omega.{arith}
+use Rattle.std.proofs.lemmas.Bool.{false≢true}
+use Rattle.std.proofs.Common.{◌≡◌, ℕ, zero, suc, ◌+◌, ◌-◌, ◌<◌, ◌≤◌, Bool, true, false, sym, refl, ap, ◌∙◌, ⊎_elim, arith}
 use Rattle.cases.proofs.Cases.{split, eq?}
 use Rattle.audits.specs.Audits.{all_from}
-
-pub false-true : false ≡ true → ⊥
-false-true e = let n : ◌≡◌ {A = ℕ} 0 1 = cc in omega arith
 
 module _ (p : ℕ → Bool) where
   pub all_says : (i n : ℕ) → all_from p i n ≡ true → (j : ℕ) → i ≤ j → j < i + n → p j ≡ true
@@ -17,7 +11,7 @@ module _ (p : ℕ → Bool) where
   all_says i (suc n) e j l m =
       split (p i)
       (λ t. ⊎_elim (λ q. sym (ap p q) ∙ t) (λ ne. all_says (suc i) n (rw t at e) j (omega arith) (omega arith)) (eq? i j))
-      (λ f. absurd (false-true (rw f at e)))
+      (λ f. absurd (false≢true (rw f at e)))
 
   pub all_is : (i n : ℕ) → ((j : ℕ) → i ≤ j → j < i + n → p j ≡ true) → all_from p i n ≡ true
   unfolding all_from

@@ -13,7 +13,8 @@ use Rattle.layout.specs.Layout.{reference, cell_of, cells_of, kind_of, Allowed}
 use Rattle.layout.specs.Columns.{State, columns}
 use Rattle.layout.proofs.SizeLaws.{small}
 use Rattle.layout.proofs.OffsetLaws.{names_says, cells_entry}
-use Rattle.trie.specs.Entry.{Entry, Word64, Got, absent, got}
+use Rattle.trie.specs.declared.Entry.{Entry}
+use Rattle.trie.specs.Entry.{Word64, Got, absent, got}
 use Rattle.trie.specs.Trie.{Item, item, find}
 use Rattle.trie.specs.Canon.{AllItems, Distinct}
 use Rattle.arena.specs.Shows.{ShowsChain}
@@ -149,10 +150,6 @@ module _ (z : Shape) (a : List ℕ) (w : Allowed z) where
             shorter = omega (arith, s.2, t.2);
             same_hash = t.4 ∙ h.1.0.0;
           }
-
-  pub chain_tail : (r : ℕ) → ChainAt z σ r → (σ.kid r 0 ≡ 0 → ⊥)
-      → (is_live z σ 1 (σ.kid r 0) ≡ true) × (σ.mark r ≡ suc (σ.mark (σ.kid r 0)))
-  chain_tail r c ne = let f = chain_next r c ne in (f.live, f.shorter)
 
   chain_last : (r : ℕ) → ChainAt z σ r → σ.kid r 0 ≡ 0 → σ.mark r ≡ 1
   unfolding ShowsChain

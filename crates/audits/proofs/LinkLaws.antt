@@ -1,25 +1,19 @@
 -- What the tests of an entry say: where it is in use nothing stands behind it and its chain length is 1, or an entry in use
 -- stands there whose chain is one shorter and which has its hash; and the search behind it for its hash and key finds nothing.
-use Prim.Native.Nat.{ℕ, ◌<◌}
-use mathlib.Core.Path.{◌≡◌, refl, sym, ◌∙◌}
-use mathlib.Core.Bool.{true}
-use mathlib.Core.Logic.{◌⊎◌, inl, inr, ⊎_elim}
-use native.Mathlib.Omega.{arith}
-use borrow.Author.Tests.{eq-eqb, eqb-true}
+use Rattle.std.proofs.lemmas.Bool.{false≢true}
+use Rattle.std.proofs.Common.{◌≡◌, ℕ, ◌<◌, true, ◌⊎◌, is_none, Some, Option, sym, refl, ◌∙◌, inl, inr, ⊎_elim, arith, eq-eqb, eqb-true}
 use Rattle.cases.proofs.Cases.{eq?}
 use Rattle.layout.specs.declared.Shape.{Shape}
 use Rattle.layout.specs.Columns.{State}
 use Rattle.lookup.specs.Lookup.{longest, hit_from}
 use Rattle.audits.specs.Audits.{linked, entry_right, key_right}
-use Rattle.audits.proofs.AllLaws.{false-true}
 use Rattle.audits.proofs.StepLaws.{linked_last, linked_next, entry_used, entry_free, key_used, free_value}
 pub use Rattle.audits.proofs.FollowLaws.{Followed}
 use Rattle.audits.proofs.FollowLaws.{to_says, to_is}
-use Rattle.std.specs.Prelude.{Option, Some, is_none}
 
 -- NOWHERE
 pub nowhere_not : (h : Option ℕ) (q : ℕ) → is_none h ≡ true → h ≡ Some q → ⊥
-nowhere_not h q e y = false-true (rw y at e)
+nowhere_not h q e y = false≢true (rw y at e)
 
 module _ (z : Shape) (σ : State) where
   -- LINKS

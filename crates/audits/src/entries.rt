@@ -16,25 +16,19 @@ fn is_one_more(m: u64, n: u64) -> bool
 }
 
 // Whether an entry may stand before the one that `next` names.
+#[tactic(auto, using(lookup::proofs::FindLaws::has_part, lookup::proofs::FindLaws::entry_word), unfolding(crate::specs::Audits::linked_to, crate::specs::Audits::is_live))]
 fn is_linked_to(a: &[u64], z: Shape, r: u64, next: u64) -> bool
     requires lent { Lent z a.now }
     requires is_entry { names_kind z 1 r ≡ true }
     ensures { result ≡ linked_to z (columns z a.now) r next }
 {
-    // One test after the other: a chain of && leaves the proof without what each of them said.
-    if !links::is_entry(z, next) {
-        return false;
-    }
-    if words::word(a, z, next, words::COUNT) == 0 {
-        return false;
-    }
-    if !is_one_more(
-        words::word(a, z, r, words::MARK),
-        words::word(a, z, next, words::MARK),
-    ) {
-        return false;
-    }
-    words::word(a, z, next, words::HASH) == words::word(a, z, r, words::HASH)
+    links::is_entry(z, next)
+        && words::word(a, z, next, words::COUNT) != 0
+        && is_one_more(
+            words::word(a, z, r, words::MARK),
+            words::word(a, z, next, words::MARK),
+        )
+        && words::word(a, z, next, words::HASH) == words::word(a, z, r, words::HASH)
 }
 
 fn is_linked(a: &[u64], z: Shape, r: u64) -> bool
@@ -50,6 +44,7 @@ fn is_linked(a: &[u64], z: Shape, r: u64) -> bool
 }
 
 // An entry in use, or a free cell. All its words are read, so that it is known to hold 64-bit words.
+#[tactic(auto, using(lookup::proofs::FindLaws::has_part, lookup::proofs::FindLaws::entry_word, crate::proofs::StepLaws::entry_fits, crate::proofs::StepLaws::entry_used, crate::proofs::StepLaws::entry_free), unfolding(crate::specs::Audits::free_entry))]
 fn is_right(a: &[u64], z: Shape, r: u64) -> bool
     requires lent { Lent z a.now }
     requires is_entry { names_kind z 1 r ≡ true }
@@ -62,17 +57,7 @@ fn is_right(a: &[u64], z: Shape, r: u64) -> bool
     if words::word(a, z, r, words::COUNT) != 0 {
         return is_linked(a, z, r);
     }
-    // One test after the other: a chain of && leaves the proof without what each of them said.
-    if links::kid(a, z, r, 0) != 0 {
-        return false;
-    }
-    if hash != 0 {
-        return false;
-    }
-    if key != 0 {
-        return false;
-    }
-    value == 0
+    links::kid(a, z, r, 0) == 0 && hash == 0 && key == 0 && value == 0
 }
 
 // Every entry cell.

@@ -9,6 +9,7 @@ use lib.Dec.{eqb, ltb}
 use lib.ListN.{length, set, length-set}
 use lib.Seq.{get_or-set_other}
 use borrow.Author.Tests.{eqb-false}
+use Rattle.trie.specs.declared.Entry.{Entry}
 use Rattle.layout.specs.declared.Shape.{Shape}
 use Rattle.layout.specs.Layout.{kind_of, header_words, total, names, has, Lent}
 use Rattle.layout.specs.Header.{Header}
@@ -100,9 +101,9 @@ take_Kept z a k l =
     (kept_trans (kind_Kept z _ (8 + k) _ (omega arith) (omega arith)) (kind_Kept z _ (10 + k) _ (omega arith) (omega arith)))))
     (λ e. kept_refl z a)
 
-pub fill_entry_Kept : (z : Shape) (a : List ℕ) (r l n h k v : ℕ) → names z r ≡ true → kind_of r ≡ 1 → Kept z a (fill_entry_words z a r l n h k v)
+pub fill_entry_Kept : (z : Shape) (a : List ℕ) (r l n : ℕ) (x : Entry) → names z r ≡ true → kind_of r ≡ 1 → Kept z a (fill_entry_words z a r l n x)
 unfolding fill_entry_words
-fill_entry_Kept z a r l n h k v e k1 =
+fill_entry_Kept z a r l n x e k1 =
     let o : kind_of r ≡ 0 → ⊥ = λ q. omega arith in
     kept_trans (word_kept z a r 1 _ (has_entry z r 1 e o (omega arith)))
     (kept_trans (word_kept z _ r 2 _ (has_entry z r 2 e o (omega arith)))

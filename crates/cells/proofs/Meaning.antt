@@ -12,6 +12,7 @@ use lib.ListN.{length, drop}
 use Rattle.cases.proofs.Cases.{split, eq?}
 use Rattle.counts.specs.Counts.{ind, sum_to, times}
 use Rattle.counts.proofs.CountLaws.{upd_at, row_same}
+use Rattle.trie.specs.declared.Entry.{Entry}
 use Rattle.layout.specs.declared.Shape.{Shape}
 use Rattle.layout.specs.Layout.{kind_of, names, Lent}
 use Rattle.layout.specs.Columns.{State, by_kind, refs, columns, set_slot_words, set_kid, set_slot}
@@ -200,17 +201,17 @@ filled {σ = σ} H r v f d I alone bare clip below deep =
 
 module _ {z : Shape} {a : List ℕ} {free : ℕ → List ℕ} (H : ℕ → ℕ) (r : ℕ) (l : Lent z a)
     (alone : (columns z a).count r ≡ 1) (bare : (k : ℕ) → (columns z a).kid r k ≡ 0) where
-  pub fill_entry_means : (length next hash key value : ℕ) → kind_of r ≡ 1
+  pub fill_entry_means : (length next : ℕ) (x : Entry) → kind_of r ≡ 1
       → Local z (columns z a) (λ x. ind x next + (ind x r + H x)) free
       → ((next ≡ 0 → ⊥) → Below 1 length (kind_of next) ((columns z a).mark next))
-      → Filled z r length (one next) (three hash key value) (columns z a)
-      (columns z (fill_entry_words z a r length next hash key value)) (λ x. ind x r + H x) free
-  fill_entry_means length next hash key value o I below =
+      → Filled z r length (one next) (three x.hash x.key x.value) (columns z a)
+      (columns z (fill_entry_words z a r length next x)) (λ r′. ind r′ r + H r′) free
+  fill_entry_means length next x o I below =
       let σ = columns z a in
       let named = live_named I r (omega arith) in
       let e : refs z r ≡ 1 = refs_entry z r (Lent-refs l r named) o in
-      rw (fill_entry_columns z a r length next hash key value l named o)
-      (filled H r length (one next) (three hash key value)
+      rw (fill_entry_columns z a r length next x l named o)
+      (filled H r length (one next) (three x.hash x.key x.value)
       (rehand _ (λ x nz. omega (arith, ap (λ (n : ℕ). times n (one next) x) e, times-one next x)) I) alone bare
       (λ k lk. one_clip next k (omega arith))
       (rw o (one_place (λ x. Below 1 length (kind_of x) (σ.mark x)) next below)) (λ y. absurd (omega arith)))

@@ -12,6 +12,7 @@ use borrow.Author.Tests.{eq-eqb, ne_eqb, lt-ltb, le-ltb}
 use Rattle.cases.proofs.Cases.{eq?, lt?}
 use Rattle.counts.specs.Counts.{upd, upd2, upd_row}
 use Rattle.counts.proofs.CountLaws.{upd_same, upd_other, row_same, row_other, place_same, place_other}
+use Rattle.trie.specs.declared.Entry.{Entry}
 use Rattle.layout.specs.declared.Shape.{Shape}
 use Rattle.layout.specs.Layout.{kind_of, total, names, Lent}
 use Rattle.layout.specs.Columns.{State, word, by_kind, kid_place, plains_of, plain_place, refs, columns, word_set, state, set_first, set_used, set_count, set_mark, set_kid, set_plain}
@@ -231,10 +232,13 @@ module _ (z : Shape) (a : List ℕ) (k : ℕ) where
       (used_to (first_to (mark_to (count_to (reads_all l) r 1 n) r 0 n) k (word z a r 1) lk) k (by_kind a 10 k + 1) lk).reads
 
 -- FILL
-pub fill_entry_columns : (z : Shape) (a : List ℕ) (r l n h k v : ℕ) → Lent z a → names z r ≡ true → kind_of r ≡ 1
-    → columns z (fill_entry_words z a r l n h k v) ≡ fill_state (columns z a) r l (one n) (three h k v)
+pub fill_entry_columns : (z : Shape) (a : List ℕ) (r l n : ℕ) (x : Entry) → Lent z a → names z r ≡ true → kind_of r ≡ 1
+    → columns z (fill_entry_words z a r l n x) ≡ fill_state (columns z a) r l (one n) (three x.hash x.key x.value)
 unfolding fill_entry_words
-fill_entry_columns z a r l n h k v lent e o =
+fill_entry_columns z a r l n x lent e o =
+    let h = x.hash in
+    let k = x.key in
+    let v = x.value in
     let σ = columns z a in
     let f = σ.kid r in
     let d = σ.plain r in

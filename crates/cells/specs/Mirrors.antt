@@ -1,5 +1,6 @@
 -- What each writer of cells and slots does to the words, on any words. What it means on a sound arena is in proofs/Meaning.antt.
 use Rattle.std.specs.Prelude.{ℕ, zero, suc, ◌+◌, ◌-◌, ◌^◌, Bool, false, cond, List, eqb, ltb, get_or, set}
+use Rattle.trie.specs.declared.Entry.{Entry}
 use Rattle.layout.specs.declared.Shape.{Shape}
 use Rattle.layout.specs.Layout.{kind_of, cells_of, names}
 use Rattle.layout.specs.Columns.{word, by_kind, kid_place, word_set}
@@ -48,9 +49,9 @@ abbrev pub taken : Shape → List ℕ → ℕ → Wrote
 taken z a k = wrote (taken_of z a k) (take_words z a k)
 
 -- FILL: the words of a cell that was taken
-unfoldable pub fill_entry_words : Shape → List ℕ → ℕ → ℕ → ℕ → ℕ → ℕ → ℕ → List ℕ
-fill_entry_words z a r length next hash key value =
-    word_set z (word_set z (word_set z (word_set z (word_set z a r 1 length) r 2 next) r 3 hash) r 4 key) r 5 value
+unfoldable pub fill_entry_words : Shape → List ℕ → ℕ → ℕ → ℕ → Entry → List ℕ
+fill_entry_words z a r length next x =
+    word_set z (word_set z (word_set z (word_set z (word_set z a r 1 length) r 2 next) r 3 x.hash) r 4 x.key) r 5 x.value
 
 -- a list of words as a row
 abbrev pub listed : List ℕ → ℕ → ℕ

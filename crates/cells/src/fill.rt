@@ -5,27 +5,20 @@ ghost use Rattle.layout.specs.Columns.{columns, refs};
 ghost use Rattle.cells.specs.Mirrors.{listed, fill_entry_words, row_words, fill_branch_words, put_in_words, take_out_words};
 
 use layout::{Shape, words};
+use trie::Entry;
 
+// The words of an entry cell but its count: `length` is that of the chain from it on, `next` what stands behind it.
 #[tactic(auto, using(layout::proofs::ColumnLaws::has_entry), unfolding(crate::specs::Mirrors::fill_entry_words))]
-pub fn fill_entry(
-    a: &mut [u64],
-    z: Shape,
-    r: u64,
-    length: u64,
-    next: u64,
-    hash: u64,
-    key: u64,
-    value: u64,
-)
+pub fn fill_entry(a: &mut [u64], z: Shape, r: u64, length: u64, next: u64, entry: Entry)
     requires lent { Lent z a.old }
     requires is_entry { (names z r ≡ true) × (kind_of r ≡ 1) }
-    ensures { a.new ≡ fill_entry_words z a.old r length next hash key value }
+    ensures { a.new ≡ fill_entry_words z a.old r length next entry }
 {
     words::set_word(&mut *a, z, r, words::MARK, length);
     words::set_word(&mut *a, z, r, words::NEXT, next);
-    words::set_word(&mut *a, z, r, words::HASH, hash);
-    words::set_word(&mut *a, z, r, words::KEY, key);
-    words::set_word(&mut *a, z, r, words::VALUE, value);
+    words::set_word(&mut *a, z, r, words::HASH, entry.hash);
+    words::set_word(&mut *a, z, r, words::KEY, entry.key);
+    words::set_word(&mut *a, z, r, words::VALUE, entry.value);
 }
 
 // The children of a branch, as many as the degree.
@@ -58,8 +51,7 @@ pub fn put_in(a: &mut [u64], z: Shape, r: u64, k: u64, v: u64)
     requires has_ref { k < refs z r }
     ensures { a.new ≡ put_in_words z a.old r k v }
 {
-    // An entry's next stands one place before where a branch's children begin.
-    words::set_word(&mut *a, z, r, words::CHILDREN - r % 2 + k, v);
+    words::set_word(&mut *a, z, r, words::first_kid(r) + k, v);
 }
 
 // Reference `k` of a cell, which becomes 0: an entry's next, or one of a branch's children.
@@ -70,7 +62,7 @@ pub fn take_out(a: &mut [u64], z: Shape, r: u64, k: u64) -> u64
     ensures answers { result ≡ (columns z a.old).kid r k }
     ensures leaves { a.new ≡ take_out_words z a.old r k }
 {
-    let v = words::word(&*a, z, r, words::CHILDREN - r % 2 + k);
+    let v = words::word(&*a, z, r, words::first_kid(r) + k);
     put_in(a, z, r, k, 0);
     v
 }

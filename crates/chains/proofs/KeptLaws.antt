@@ -6,7 +6,7 @@ use mathlib.Core.Bool.{true}
 use mathlib.Core.List.{List}
 use native.Mathlib.Omega.{arith}
 use Rattle.cases.proofs.Cases.{split}
-use Rattle.trie.specs.Entry.{Entry}
+use Rattle.trie.specs.declared.Entry.{Entry}
 use Rattle.layout.specs.declared.Shape.{Shape}
 use Rattle.layout.specs.Layout.{Lent}
 use Rattle.lookup.specs.Lookup.{names_kind}
@@ -24,7 +24,7 @@ new_Kept z a l e =
     then_Kept (taken z a 1) _ (cell-kept z a 1 (omega arith))
     (λ ne.
     let t = taken_cell z a 1 (taken_of z a 1) refl ne in
-    fill_entry_Kept z _ (taken_of z a 1) l 0 e.hash e.key e.value t.0 t.1)
+    fill_entry_Kept z _ (taken_of z a 1) l 0 e t.0 t.1)
 
 -- the entry c gets the copy behind it
 pub on_Kept : (z : Shape) (n c r : ℕ) (a : List ℕ) → Lent z a → names_kind z 1 c ≡ true → Kept z a (copied_on z n c r a).words

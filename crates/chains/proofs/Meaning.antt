@@ -13,7 +13,7 @@ use lib.ListN.{length, get_or, length-append}
 use Rattle.cases.proofs.Cases.{eq?}
 use Rattle.counts.specs.Counts.{ind}
 use Rattle.counts.proofs.CountLaws.{place_other}
-use Rattle.trie.specs.Entry.{Entry}
+use Rattle.trie.specs.declared.Entry.{Entry}
 use Rattle.trie.specs.Trie.{Item, item}
 use Rattle.layout.specs.declared.Shape.{Shape}
 use Rattle.layout.specs.Layout.{reference, cell_of, Lent}

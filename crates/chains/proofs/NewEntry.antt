@@ -7,7 +7,7 @@ use native.Mathlib.Omega.{arith}
 use lib.ListN.{length, get_or, drop}
 use Rattle.counts.specs.Counts.{ind}
 use Rattle.counts.proofs.CountLaws.{upd_at, ind_other, place_same}
-use Rattle.trie.specs.Entry.{Entry}
+use Rattle.trie.specs.declared.Entry.{Entry}
 use Rattle.trie.specs.Trie.{Item, item}
 use Rattle.layout.specs.declared.Shape.{Shape}
 use Rattle.layout.specs.Layout.{reference, kind_of, cell_of, Lent}
@@ -62,11 +62,11 @@ pub record Fresh (z : Shape) (a : List ℕ) (H : ℕ → ℕ) (free : ℕ → Li
   pub last : Last (columns z a) (columns z s.words) l e s.at
 
 entry_made_is : (z : Shape) (a : List ℕ) (l : ℕ) (e : Entry) (c : ℕ) → taken_of z a 1 ≡ c → (c ≡ 0 → ⊥)
-    → entry_made z a l e ≡ wrote c (fill_entry_words z (take_words z a 1) c l 0 e.hash e.key e.value)
+    → entry_made z a l e ≡ wrote c (fill_entry_words z (take_words z a 1) c l 0 e)
 unfolding entry_made
 entry_made_is z a l e c t nz =
     then_on (taken z a 1) _ (λ y. nz (sym t ∙ y))
-    ∙ ap (λ (x : ℕ). wrote x (fill_entry_words z (take_words z a 1) x l 0 e.hash e.key e.value)) t
+    ∙ ap (λ (x : ℕ). wrote x (fill_entry_words z (take_words z a 1) x l 0 e)) t
 
 entry_made_lem : {z : Shape} {a : List ℕ} {H : ℕ → ℕ} {free : ℕ → List ℕ} (l : ℕ) (e : Entry) (c : ℕ) (rs : List ℕ)
     → Lent z a → free 1 ≡ c ∷ rs → Local z (columns z a) H free
@@ -76,12 +76,12 @@ entry_made_lem {z} {a} {H} {free} l e c rs lent next I =
     let T : Taken z a 1 c (λ r. ind r c + H r) (λ q. drop (ind q 1) (free q)) = take_means 1 (omega arith) lent I c rs next in
     let J = T.grown.local in
     let took = take_Kept z a 1 (omega arith) in
-    let F = fill_entry_means H c (Kept-Lent took lent) T.alone T.bare (suc l) 0 e.hash e.key e.value T.kind
+    let F = fill_entry_means H c (Kept-Lent took lent) T.alone T.bare (suc l) 0 e T.kind
     (rehand _ (λ r nz. omega (arith, ind_other r 0 (λ y. nz (sym y)))) J) (λ nz. absurd (nz refl)) in
     rw (entry_made_is z a (suc l) e c T.taken (live_some J c (omega (arith, T.alone))))
     (record {
       at_is = refl;
-      kept = kept_trans took (fill_entry_Kept z _ c (suc l) 0 e.hash e.key e.value T.named T.kind);
+      kept = kept_trans took (fill_entry_Kept z _ c (suc l) 0 e T.named T.kind);
       local = F.local;
       grow = F.grow T.grown.grow T.unused;
       slots = slots_trans T.grown.slots F.slots;

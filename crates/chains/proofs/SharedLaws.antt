@@ -7,7 +7,7 @@ use native.Mathlib.Omega.{arith}
 use lib.ListN.{length}
 use Rattle.counts.specs.Counts.{ind}
 use Rattle.counts.proofs.CountLaws.{ind_le}
-use Rattle.trie.specs.Entry.{Entry}
+use Rattle.trie.specs.declared.Entry.{Entry}
 use Rattle.trie.specs.Trie.{Item}
 use Rattle.layout.specs.declared.Shape.{Shape}
 use Rattle.layout.specs.Layout.{Lent}

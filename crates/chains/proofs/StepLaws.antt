@@ -9,14 +9,14 @@ use Rattle.cases.proofs.Cases.{eq?, split}
 use Rattle.layout.specs.declared.Shape.{Shape}
 use Rattle.layout.specs.Layout.{Lent}
 use Rattle.layout.specs.Columns.{word, refs, columns}
-use Rattle.trie.specs.Entry.{Entry}
-use Rattle.lookup.specs.Lookup.{names_kind}
-use Rattle.lookup.proofs.FindLaws.{kind_says, kind_is, entry_word}
+use Rattle.trie.specs.declared.Entry.{Entry}
+use Rattle.lookup.specs.Lookup.{names_kind, entry_at}
+use Rattle.lookup.proofs.FindLaws.{kind_says, kind_is}
 use Rattle.cells.specs.Mirrors.{Wrote, wrote, and_then, taken, taken_of, take_words, share_words, fill_entry_words, put_in_words}
 use Rattle.cells.proofs.TakeLaws.{taken_cell}
 use Rattle.cells.proofs.StepColumns.{Lent-refs}
 use Rattle.cells.proofs.Made.{then_on, then_over, taken_over, taken_on}
-use Rattle.chains.specs.Chains.{length_at, an_entry, entry_made, entry_copied, copied_on, closed, front_pushed, taken_from}
+use Rattle.chains.specs.Chains.{length_at, entry_made, entry_copied, copied_on, closed, front_pushed, taken_from}
 
 pub entry_refs : {z : Shape} {a : List ℕ} (r : ℕ) → Lent z a → names_kind z 1 r ≡ true → 0 < refs z r
 entry_refs {z} r l e = Lent-refs l r (kind_says z 1 r e).0
@@ -41,10 +41,10 @@ module _ (z : Shape) (a : List ℕ) (l : ℕ) (e : Entry) where
   new_over r w er ew o = taken_over z a 1 r w er ew _ o
 
   pub new_on : (r : ℕ) (w v : List ℕ) → r ≡ taken_of z a 1 → w ≡ take_words z a 1 → (r ≡ 0 → ⊥)
-      → v ≡ fill_entry_words z w r l 0 e.hash e.key e.value → wrote r v ≡ entry_made z a l e
+      → v ≡ fill_entry_words z w r l 0 e → wrote r v ≡ entry_made z a l e
   unfolding entry_made
   new_on r w v er ew ne ev =
-      taken_on z a 1 r w er ew (λ c x. fill_entry_words z x c l 0 e.hash e.key e.value) v ne ev
+      taken_on z a 1 r w er ew (λ c x. fill_entry_words z x c l 0 e) v ne ev
 
   -- what is new is an entry
   pub new_names : (c : ℕ) (w : List ℕ) → wrote c w ≡ entry_made z a l e → (c ≡ 0 → ⊥) → names_kind z 1 c ≡ true
@@ -57,16 +57,9 @@ module _ (z : Shape) (a : List ℕ) (l : ℕ) (e : Entry) where
       (eq? (taken_of z a 1) 0)
 
 -- COPY
-pub copy_is : (z : Shape) (a : List ℕ) (r n l h k v : ℕ) → names_kind z 1 r ≡ true → n ≡ word z a r 1 → l ≡ n - 1 → h ≡ word z a r 3
-    → k ≡ word z a r 4 → v ≡ word z a r 5 → entry_made z a l (an_entry h k v) ≡ entry_copied z a r
-copy_is z a r n l h k v e en el eh ek ev =
-    rw (
-      el,
-      en,
-      eh ∙ sym (entry_word z a r 0 e (omega arith)),
-      ek ∙ sym (entry_word z a r 1 e (omega arith)),
-      ev ∙ sym (entry_word z a r 2 e (omega arith)),
-    )
+pub copy_is : (z : Shape) (a : List ℕ) (r n l : ℕ) (x : Entry) → n ≡ word z a r 1 → l ≡ n - 1 → x ≡ entry_at (columns z a) r
+    → entry_made z a l x ≡ entry_copied z a r
+copy_is z a r n l x en el ex = rw (el, en, ex)
 
 module _ (z : Shape) (c r : ℕ) (a : List ℕ) where
   pub on_over : (n : ℕ) → n ≡ 0 → copied_on z n c r a ≡ wrote c a

@@ -1,6 +1,6 @@
 -- What the writers of chains do to the words, on any words. What it means on a sound arena is in proofs/Meaning.antt.
 use Rattle.std.specs.Prelude.{ℕ, zero, suc, ◌-◌, cond, List}
-use Rattle.trie.specs.Entry.{Entry}
+use Rattle.trie.specs.declared.Entry.{Entry}
 use Rattle.layout.specs.declared.Shape.{Shape}
 use Rattle.layout.specs.Columns.{State, columns}
 use Rattle.lookup.specs.Lookup.{names_kind, entry_at}
@@ -16,7 +16,7 @@ an_entry h k v = record { hash = h; key = k; value = v }
 -- NEW: an entry with nothing behind it, and the length of the chain that will stand from it on
 unfoldable pub entry_made : Shape → List ℕ → ℕ → Entry → Wrote
 entry_made z a l e =
-    and_then (taken z a 1) (λ c w. wrote c (fill_entry_words z w c l 0 e.hash e.key e.value))
+    and_then (taken z a 1) (λ c w. wrote c (fill_entry_words z w c l 0 e))
 
 -- COPY: the entry r once more, in a chain that is one shorter from there on
 abbrev pub entry_copied : Shape → List ℕ → ℕ → Wrote

@@ -4,6 +4,8 @@
 //!
 //! A caller may rely on this: on any words each of them writes what its mirror in specs/Chains.antt says and stays inside
 //! the arena, and answers 0 where no cell could be taken; what it means on a sound arena is in proofs/Meaning.antt.
+//!
+//! A reference is answered as it is stored, 0 for none: that is document 01's word for it, and what `Wrote` in the mirrors holds.
 
 #![tactic(auto)]
 
@@ -12,14 +14,20 @@ ghost use Rattle.layout.specs.Layout.{Lent};
 ghost use Rattle.layout.specs.Columns.{columns};
 ghost use Rattle.lookup.specs.Lookup.{names_kind};
 ghost use Rattle.cells.specs.Mirrors.{Wrote, wrote};
-ghost use Rattle.chains.specs.Chains.{length_at, an_entry, entry_made, entry_copied, copied_on, closed, front_pushed, taken_from};
+ghost use Rattle.chains.specs.Chains.{length_at, entry_made, entry_copied, copied_on, closed, front_pushed, taken_from};
 
 use cells::{fill, free, shares};
-use layout::{Shape, words};
+use layout::{Kind, Shape, words};
 use lookup::links;
+use trie::Entry;
 
-// The kind of an entry cell.
-const ENTRY: u64 = 1;
+// What a new chain ends with: copies of `count` entries from `from` on, and behind them the chain `rest`, which is shared.
+#[derive(Clone, Copy, Debug, PartialEq, Eq)]
+pub struct Tail {
+    pub count: u64,
+    pub from: u64,
+    pub rest: u64,
+}
 
 // How long the chain is whose front a reference names; 0 where it names no entry.
 #[tactic(auto, using(lookup::proofs::FindLaws::has_part, crate::proofs::StepLaws::length_entry, crate::proofs::StepLaws::length_none))]
@@ -35,15 +43,15 @@ pub fn length(a: &[u64], z: Shape, r: u64) -> u64
 }
 
 // A new entry, with nothing behind it yet. `length` is that of the chain that will stand from it on.
-fn new_entry(a: &mut [u64], z: Shape, length: u64, hash: u64, key: u64, value: u64) -> u64
+fn new_entry(a: &mut [u64], z: Shape, length: u64, entry: Entry) -> u64
     requires { Lent z a.old }
-    ensures { wrote result a.new ≡ entry_made z a.old length (an_entry hash key value) }
+    ensures { wrote result a.new ≡ entry_made z a.old length entry }
 {
-    let r = free::take(&mut *a, z, ENTRY);
+    let r = free::take(&mut *a, z, Kind::Entry);
     if r == 0 {
         return 0;
     }
-    fill::fill_entry(&mut *a, z, r, length, 0, hash, key, value);
+    fill::fill_entry(&mut *a, z, r, length, 0, entry);
     r
 }
 
@@ -55,10 +63,8 @@ fn copy_entry(a: &mut [u64], z: Shape, r: u64) -> u64
     ensures { wrote result a.new ≡ entry_copied z a.old r }
 {
     let length = shares::fewer(words::word(&*a, z, r, words::MARK));
-    let hash = words::word(&*a, z, r, words::HASH);
-    let key = words::word(&*a, z, r, words::KEY);
-    let value = words::word(&*a, z, r, words::VALUE);
-    new_entry(a, z, length, hash, key, value)
+    let entry = lookup::entry(&*a, z, r);
+    new_entry(a, z, length, entry)
 }
 
 // Copies of `count` entries from `from` on, one behind the other, behind the new entry `first`. Answers the last of them.
@@ -87,61 +93,59 @@ fn copy_on(a: &mut [u64], z: Shape, count: u64, first: u64, from: u64) -> u64
     last
 }
 
-// Behind the new entry `first`: copies of `count` entries from `from` on, and the chain `rest`, which is shared. Answers
-// `first`, or 0 where no cell could be taken.
-fn stand_behind(a: &mut [u64], z: Shape, first: u64, count: u64, from: u64, rest: u64) -> u64
+// The tail behind the new entry `first`. Answers `first`, or 0 where no cell could be taken.
+fn stand_behind(a: &mut [u64], z: Shape, first: u64, tail: Tail) -> u64
     requires lent { Lent z a.old }
     requires is_entry { names_kind z 1 first ≡ true }
-    ensures { wrote result a.new ≡ closed z first rest (copied_on z count first from a.old) }
+    ensures { wrote result a.new ≡ closed z first tail.rest (copied_on z tail.count first tail.from a.old) }
 {
-    let last = copy_on(&mut *a, z, count, first, from);
+    let last = copy_on(&mut *a, z, tail.count, first, tail.from);
     if last == 0 {
         return 0;
     }
-    shares::share(&mut *a, z, rest);
-    fill::put_in(&mut *a, z, last, 0, rest);
+    shares::share(&mut *a, z, tail.rest);
+    fill::put_in(&mut *a, z, last, 0, tail.rest);
     first
 }
 
-// A new entry in front of copies of `count` entries from `from` on, and of the chain `rest`, which is shared.
-pub fn push_front(
-    a: &mut [u64],
-    z: Shape,
-    length: u64,
-    hash: u64,
-    key: u64,
-    value: u64,
-    count: u64,
-    from: u64,
-    rest: u64,
-) -> u64
+// A new entry in front of a tail. `length` is that of the whole chain.
+pub fn push_front(a: &mut [u64], z: Shape, length: u64, entry: Entry, tail: Tail) -> u64
     requires { Lent z a.old }
-    ensures { wrote result a.new ≡ front_pushed z a.old length (an_entry hash key value) count from rest }
+    ensures { wrote result a.new ≡ front_pushed z a.old length entry tail.count tail.from tail.rest }
 {
-    let first = new_entry(&mut *a, z, length, hash, key, value);
+    let first = new_entry(&mut *a, z, length, entry);
     if first == 0 {
         return 0;
     }
-    stand_behind(a, z, first, count, from, rest)
+    stand_behind(a, z, first, tail)
 }
 
-// A chain with an entry taken out: copies of the `count` entries before it, from `from` on, and the chain `rest` behind it,
-// which is shared. Answers its front: `rest` itself, and so maybe 0, where nothing is copied.
-pub fn take_from(a: &mut [u64], z: Shape, count: u64, from: u64, rest: u64) -> u64
+// A chain with an entry taken out: a tail of copies of the entries before it and of what stands behind it. Answers its front:
+// the shared chain itself, and so maybe 0, where nothing is copied.
+pub fn take_from(a: &mut [u64], z: Shape, tail: Tail) -> u64
     requires { Lent z a.old }
-    ensures { wrote result a.new ≡ taken_from z count from rest a.old }
+    ensures { wrote result a.new ≡ taken_from z tail.count tail.from tail.rest a.old }
 {
-    if count == 0 {
-        shares::share(&mut *a, z, rest);
-        return rest;
+    if tail.count == 0 {
+        shares::share(&mut *a, z, tail.rest);
+        return tail.rest;
     }
-    if !links::is_entry(z, from) {
+    if !links::is_entry(z, tail.from) {
         return 0;
     }
-    let next = links::kid(&*a, z, from, 0);
-    let first = copy_entry(&mut *a, z, from);
+    let next = links::kid(&*a, z, tail.from, 0);
+    let first = copy_entry(&mut *a, z, tail.from);
     if first == 0 {
         return 0;
     }
-    stand_behind(a, z, first, count - 1, next, rest)
+    stand_behind(
+        a,
+        z,
+        first,
+        Tail {
+            count: tail.count - 1,
+            from: next,
+            rest: tail.rest,
+        },
+    )
 }

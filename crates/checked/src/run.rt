@@ -3,12 +3,12 @@
 use crate::keys;
 use crate::keys::Size;
 use shelf::{Refusal, Updated};
-use shown::answer;
 
 pub const SLOTS: u64 = 8;
 
-// Where a run stands, by default before the first update of edition 0: the edition that the next update is made from; how many updates were done, how many were to remove a key
-// that is not there, and how often there was no room. Of the checks, how many found a sound arena; and all that should not be.
+// Where a run stands, by default before the first update of edition 0: the edition that the next update is made from; how many
+// updates were done, how many were to remove a key that is not there, and how often there was no room. Of the checks, how many
+// found a sound arena; and all that should not be.
 #[derive(Clone, Copy, Debug, Default)]
 pub struct Run {
     pub edition: u64,
@@ -22,26 +22,26 @@ pub struct Run {
 impl Run {
     pub fn checked(mut self, sound: bool) -> Self {
         if sound {
-            self.sound = answer::count(self.sound);
+            self.sound = self.sound.saturating_add(1);
         } else {
-            self.others = answer::count(self.others);
+            self.others = self.others.saturating_add(1);
         }
         self
     }
 
     fn updated(mut self, edition: u64) -> Self {
         self.edition = edition;
-        self.done = answer::count(self.done);
+        self.done = self.done.saturating_add(1);
         self
     }
 
     fn refused(mut self, why: Refusal) -> Self {
         match why {
-            Refusal::Absent => self.absent = answer::count(self.absent),
+            Refusal::Absent => self.absent = self.absent.saturating_add(1),
             Refusal::NoSlot | Refusal::NoBranchCells | Refusal::NoEntryCells => {
-                self.full = answer::count(self.full);
+                self.full = self.full.saturating_add(1);
             }
-            _ => self.others = answer::count(self.others),
+            _ => self.others = self.others.saturating_add(1),
         }
         self
     }
@@ -74,15 +74,9 @@ fn update(a: &mut [u64], turn: u64, size: Size, edition: u64) -> Result<Updated,
 // A turn on an arena of a size.
 pub fn step(a: &mut [u64], turn: u64, size: Size, run: Run) -> Run {
     match update(a, turn, size, run.edition) {
-        Ok(
-            Updated {
-                edition,
-                branches: _,
-                entries: _,
-            },
-        ) => {
+        Ok(made) => {
             let_go(a, turn, run.edition);
-            run.updated(edition)
+            run.updated(made.edition)
         }
         Err(why) => {
             make_room(a, turn, run.edition);

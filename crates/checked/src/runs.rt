@@ -29,20 +29,15 @@ fn count_some(words: &[u64]) -> u64 {
 
 // As many counts are not 0 as there are cells in use.
 fn are_in_use(a: &[u64], work: &[u64]) -> bool {
-    match shelf::in_use(a) {
-        Ok(CellCounts { branches, entries }) => {
-            count_some(work) == std::num::wrapping_add_u64(branches, entries)
-        }
-        Err(_) => false,
-    }
+    let Ok(CellCounts { branches, entries }) = shelf::in_use(a) else {
+        return false;
+    };
+    count_some(work) == branches.wrapping_add(entries)
 }
 
 fn is_sound(a: &[u64]) -> bool {
     let mut work = [0u64; WORK];
-    match shelf::check(a, &mut work) {
-        Ok(()) => are_in_use(a, &work),
-        Err(_) => false,
-    }
+    shelf::check(a, &mut work).is_ok() && are_in_use(a, &work)
 }
 
 // By both decisions where the arena is small.
@@ -76,11 +71,11 @@ fn tell(rt: &impl Print, degree: u64, branches: u64, entries: u64, size: Size) -
 }
 
 pub fn show(rt: &impl Print) -> io::Result<()> {
-    print::say(rt, b"Checked after each of 480 turns (61 keys, 8 slots)\n")?;
+    println!(rt; "Checked after each of 480 turns (61 keys, 8 slots)")?;
     for (degree, branches, entries) in LARGE {
         tell(rt, degree, branches, entries, Size::Large)?;
     }
-    print::say(rt, b"And by reachability too (23 keys)\n")?;
+    println!(rt; "And by reachability too (23 keys)")?;
     tell(rt, 8, 64, 64, Size::Small)?;
     tell(rt, 64, 64, 64, Size::Small)
 }

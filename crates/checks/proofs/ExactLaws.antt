@@ -1,11 +1,6 @@
 -- What a reader takes from the contract of check alone: its answer is 0 exactly if the arena is sound, 12 exactly if the work words
 -- are too few for a right header, and else 4; and where each cell's count is left.
-use Prim.Native.Nat.{ℕ, ◌+◌, ◌≤◌, ◌<◌}
-use mathlib.Core.Path.{◌≡◌, refl, sym, ap, ◌∙◌, subst}
-use mathlib.Core.List.{List}
-use mathlib.Core.Logic.{◌⊎◌, inl, inr, ◌↔◌}
-use native.Mathlib.Omega.{arith}
-use lib.ListN.{length, get_or}
+use Rattle.std.proofs.Common.{◌≡◌, ℕ, ◌+◌, ◌<◌, ◌≤◌, ◌⊎◌, ◌↔◌, List, length, get_or, Result, sym, refl, ap, ◌∙◌, subst, inl, inr, arith}
 use Rattle.layout.specs.declared.Shape.{Shape}
 use Rattle.layout.specs.Layout.{reference, cells_of}
 use Rattle.layout.specs.Header.{Header}
@@ -17,7 +12,6 @@ use Rattle.tallies.specs.Tallies.{work_words, work_place, Works}
 use Rattle.tallies.proofs.WorkLaws.{work_branch, work_entry}
 use Rattle.replies.specs.Answers.{answer, unit_answer}
 use Rattle.checks.specs.Terms.{Checks, wrong_header, short_work, not_sound, is_sound}
-use Rattle.std.specs.Prelude.{Result}
 use Rattle.replies.specs.declared.Refusal.{Refusal}
 
 abbrev number : Result (Unit {0}) Refusal → ℕ

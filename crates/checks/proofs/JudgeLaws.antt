@@ -1,19 +1,14 @@
 -- The verdict, test by test: where one fails the arena is not sound, where all pass it is; and what the work words are meanwhile.
-use Prim.Native.Nat.{ℕ, zero, suc, ◌≤◌, ◌<◌}
-use mathlib.Core.Path.{◌≡◌, refl, sym, ◌∙◌}
-use mathlib.Core.Bool.{Bool, true, false}
-use mathlib.Core.List.{List}
-use native.Mathlib.Omega.{arith}
-use lib.ListN.{length, get_or}
+use Rattle.std.proofs.Common.{◌≡◌, ℕ, zero, suc, ◌<◌, ◌≤◌, Bool, true, false, List, length, get_or, Some, None, sym, refl, ◌∙◌, arith}
+use Rattle.std.proofs.lemmas.Bool.{false≢true, both_ways}
 use Rattle.layout.specs.declared.Shape.{Shape}
 use Rattle.layout.specs.Header.{Header, header_of}
-use Rattle.layout.proofs.HeaderLaws.{Header-says}
+use Rattle.layout.proofs.HeaderLaws.{Header-says, Header-Lent}
 use Rattle.layout.specs.Columns.{State, columns}
 use Rattle.arena.specs.Local.{occ}
 use Rattle.arena.proofs.Equivalent.{Header-degree}
 use Rattle.arena.proofs.RefLaws.{names-refs}
 use Rattle.audits.specs.Audits.{is_live, EntriesFit, entries_right, keys_right, branches_right, chain_right}
-use Rattle.audits.proofs.AllLaws.{false-true}
 use Rattle.audits.proofs.CellLaws.{branch_deep}
 use Rattle.audits.proofs.LiveLaws.{live_cell}
 use Rattle.levels.specs.Levels.{levels_seen, slots_right, Known, OnlyBranches}
@@ -23,10 +18,6 @@ use Rattle.checks.specs.Terms.{Judged}
 use Rattle.checks.proofs.Passed.{Passed}
 use Rattle.checks.proofs.SoundLaws.{Passed-Sound}
 use Rattle.checks.proofs.PassedLaws.{sound_Passed}
-use Rattle.std.specs.Prelude.{Some, None}
-
-not_both : {b : Bool} → b ≡ false → b ≡ true → ⊥
-not_both f t = false-true (sym f ∙ t)
 
 -- WORK WORDS: those behind the cells' stay
 pub record Stays (z : Shape) (w w' : List ℕ) : Type 0 where
@@ -60,30 +51,30 @@ module _ (z : Shape) (a : List ℕ) (h : Header a z) where
     Judged-no : (Passed z σ → ⊥) → Judged z a w false w'
     Judged-no fault =
         record {
-          yes = λ e. absurd (false-true e);
+          yes = λ e. absurd (false≢true e);
           no = λ e sound. fault (sound_Passed z a h sound);
           same_length = s.same_length;
           rest = s.rest;
         }
 
     pub no_entries : entries_right z σ ≡ false → Judged z a w false w'
-    no_entries e = Judged-no (λ p. not_both e p.entries)
+    no_entries e = Judged-no (λ p. both_ways _ e p.entries)
 
     pub no_branches : branches_right z σ ≡ false → Judged z a w false w'
-    no_branches e = Judged-no (λ p. not_both e p.branches)
+    no_branches e = Judged-no (λ p. both_ways _ e p.branches)
 
     pub no_levels : levels_seen z σ z.depths ≡ false → Judged z a w false w'
-    no_levels e = Judged-no (λ p. not_both e p.levels)
+    no_levels e = Judged-no (λ p. both_ways _ e p.levels)
 
     pub no_slots : slots_right z σ ≡ false → Judged z a w false w'
-    no_slots e = Judged-no (λ p. not_both e p.slots)
+    no_slots e = Judged-no (λ p. both_ways _ e p.slots)
 
     pub no_chain : (k : ℕ) → k < 2 → chain_right z σ k ≡ false → Judged z a w false w'
-    no_chain k l e = Judged-no (λ p. not_both e (p.chains k l))
+    no_chain k l e = Judged-no (λ p. both_ways _ e (p.chains k l))
 
     pub no_counts : {v : List ℕ} → Works z (occ z σ) v w' → counts_right z σ w' ≡ false → Judged z a w false w'
     no_counts k e =
-        Judged-no (λ p. not_both e (counts_are z σ w' (λ r n. k.first r n ∙ p.counts r n)))
+        Judged-no (λ p. both_ways _ e (counts_are z σ w' (λ r n. k.first r n ∙ p.counts r n)))
 
     -- ALL TESTS BUT THE LAST PASS
     module _ {v : List ℕ} (k : Works z (occ z σ) v w') (fit : EntriesFit z σ) (entries : entries_right z σ ≡ true)
@@ -117,7 +108,7 @@ module _ (z : Shape) (a : List ℕ) (h : Header a z) where
                 rest = s.rest;
               },
             );
-            no = λ f sound. not_both (sym e ∙ f) (sound_Passed z a h sound).keys;
+            no = λ f sound. both_ways _ (sym e ∙ f) (sound_Passed z a h sound).keys;
             same_length = s.same_length;
             rest = s.rest;
           }
@@ -136,3 +127,6 @@ pub no_header : (a : List ℕ) → header_of a ≡ None → (z : Shape) → Head
 no_header a e z h =
     let r : header_of a ≡ Some z = (Header-says a z).1 h in
     let n : ◌≡◌ {A = ℕ} 0 1 = cc in omega arith
+
+-- what the tests are called by: the arena is lent, and nothing is to be known before the first level
+pub ruleset tested = (Header-Lent, Known-none)

@@ -1,11 +1,6 @@
 -- The local form of an arena that passes all tests: free cells hold zeros, and whatever a word names is in use, one deeper or
 -- one shorter, so that counting the words of the whole arena counts each cell.
-use Prim.Native.Nat.{ℕ, zero, suc, ◌+◌, ◌-◌, ◌≤◌, ◌<◌}
-use mathlib.Core.Path.{◌≡◌, refl, sym, ap, ◌∙◌, subst}
-use mathlib.Core.Bool.{true}
-use mathlib.Core.Logic.{◌⊎◌, inl, inr, ⊎_elim}
-use mathlib.Core.List.{[], List}
-use native.Mathlib.Omega.{arith}
+use Rattle.std.proofs.Common.{◌≡◌, ℕ, zero, suc, ◌+◌, ◌-◌, ◌<◌, ◌≤◌, true, ◌⊎◌, List, [], sym, refl, ap, ◌∙◌, subst, inl, inr, ⊎_elim, arith}
 use Rattle.cases.proofs.Cases.{split, eq?, lt?}
 use Rattle.counts.specs.Counts.{ind, sum_to, times, among}
 use Rattle.counts.proofs.CountLaws.{ind_other, sum_zero}

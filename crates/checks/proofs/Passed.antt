@@ -1,7 +1,5 @@
 -- All that a check asks of an arena, as one record of tests that pass.
-use Prim.Native.Nat.{ℕ, ◌<◌}
-use mathlib.Core.Path.{◌≡◌}
-use mathlib.Core.Bool.{true}
+use Rattle.std.proofs.Common.{◌≡◌, ℕ, ◌<◌, true}
 use Rattle.layout.specs.declared.Shape.{Shape}
 use Rattle.layout.specs.Layout.{names}
 use Rattle.layout.specs.Columns.{State}

@@ -1,14 +1,7 @@
 -- A sound arena passes every test of a check. Every cell in use stands in an edition, which gives what is asked of its entries,
 -- of its branches level by level and of its slots; the counts, the free cells and their chains are in the local form of
 -- soundness.
-use Prim.Native.Nat.{ℕ, zero, suc, ◌+◌, ◌-◌, ◌≤◌, ◌<◌}
-use mathlib.Core.Path.{◌≡◌, refl, sym, ◌∙◌}
-use mathlib.Core.Bool.{true}
-use mathlib.Core.List.{[], List}
-use mathlib.Core.Logic.{◌⊎◌, inl, inr, ⊎_elim}
-use native.Mathlib.Omega.{arith}
-use borrow.Author.Tests.{eq-eqb, ne_eqb, lt-ltb}
-use lib.ListN.{length}
+use Rattle.std.proofs.Common.{◌≡◌, ℕ, zero, suc, ◌+◌, ◌-◌, ◌<◌, ◌≤◌, true, ◌⊎◌, List, [], length, Option, sym, refl, ◌∙◌, inl, inr, ⊎_elim, arith, lt-ltb, eq-eqb, ne_eqb}
 use Rattle.cases.proofs.Cases.{eq?}
 use Rattle.segments.specs.Segments.{segment}
 use Rattle.layout.specs.declared.Shape.{Shape}
@@ -35,7 +28,6 @@ use Rattle.audits.proofs.AllLaws.{below_all}
 use Rattle.audits.proofs.Shown.{ChainAt}
 use Rattle.audits.proofs.EntryLaws.{entry_right_of, key_right_of}
 use Rattle.audits.proofs.FreeLaws.{free_chain}
-use Rattle.std.proofs.Common.{Option}
 use Rattle.levels.specs.declared.Seen.{Seen}
 use Rattle.levels.specs.Levels.{Under, on_seen, is_seen, see_from, see_at, is_at, branch_seen, level_seen, levels_seen, size_is, root_right, slot_right, slots_right}
 use Rattle.levels.proofs.Paths.{asked}

@@ -1,12 +1,6 @@
 -- An arena that passes all tests of a check is sound: it is so in the local form, and what the root of a held slot is seen as
 -- is a trie that the rules can build, with the slot's size.
-use Prim.Native.Nat.{ℕ, ◌-◌, ◌≤◌, ◌<◌}
-use mathlib.Core.Path.{◌≡◌, sym, subst}
-use mathlib.Core.Bool.{true}
-use mathlib.Core.Logic.{◌⊎◌, inl, inr}
-use mathlib.Core.List.{List}
-use native.Mathlib.Omega.{arith}
-use borrow.Author.Tests.{le-ltb}
+use Rattle.std.proofs.Common.{◌≡◌, ℕ, ◌-◌, ◌<◌, ◌≤◌, true, ◌⊎◌, List, sym, subst, inl, inr, arith, le-ltb}
 use Rattle.segments.specs.Segments.{segment}
 use Rattle.trie.specs.Entry.{Word64}
 use Rattle.trie.specs.Trie.{Map, empty, root, listing, size}

@@ -1,19 +1,15 @@
 -- In a sound arena every cell in use stands in an edition: it is reached from a held slot, so it shows a node of a trie that
 -- the rules can build, at the end of a path, with no more entries than the arena has. So an entry in use shows a chain of one
 -- hash, and a branch in use stands at its depth.
-use Prim.Native.Nat.{ℕ, zero, suc, ◌+◌, ◌≤◌, ◌<◌}
-use mathlib.Core.Path.{◌≡◌, refl, sym, ◌∙◌}
-use mathlib.Core.List.{[], List, ◌∷◌}
-use mathlib.Core.Logic.{⊎_elim}
-use native.Mathlib.Omega.{arith}
-use lib.ListN.{length, length-append}
+use Rattle.std.proofs.Common.{◌≡◌, ℕ, zero, suc, ◌+◌, ◌<◌, ◌≤◌, List, [], ◌∷◌, length, sym, refl, ◌∙◌, ⊎_elim, arith, length-append}
 use Rattle.cases.proofs.Cases.{eq?}
 use Rattle.segments.specs.Segments.{segment}
 use Rattle.layout.specs.declared.Shape.{Shape}
 use Rattle.layout.specs.Layout.{kind_of, Allowed}
 use Rattle.layout.specs.Columns.{State, refs}
 use Rattle.layout.proofs.SizeLaws.{row_in, row_is_Right}
-use Rattle.trie.specs.Entry.{Entry, Word64}
+use Rattle.trie.specs.declared.Entry.{Entry}
+use Rattle.trie.specs.Entry.{Word64}
 use Rattle.trie.specs.Trie.{Node, leaf, branch, Kids, none, kid, Item, Map, empty, root, find, listing_chain, listing_node, listing_kids, listing, size}
 use Rattle.trie.specs.Canon.{AllKids, Busy, AllItems, Distinct, NonEmpty, In, Canon, Canonical}
 use Rattle.trie.proofs.DegreeLaws.{one_hash}

@@ -10,10 +10,11 @@ ghost use Rattle.tallies.specs.Tallies.{work_words};
 ghost use Rattle.checks.specs.Terms.{Judged, Checks};
 
 use audits::{branches, entries, free};
-use layout::Shape;
+use layout::{Kind, Shape};
 use replies::Refusal;
 
 // Each cell by itself; branches and slots; counts and free chains; and last the keys, since chains are known to end by then.
+#[tactic(auto, using(crate::proofs::JudgeLaws::tested))]
 fn is_sound(a: &[u64], work: &mut [u64], z: Shape) -> bool
     requires header { Header a.now z }
     requires work_fits { work_words z ≤ length work.old }
@@ -35,10 +36,10 @@ fn is_sound(a: &[u64], work: &mut [u64], z: Shape) -> bool
     if !tallies::are_counts(a, &*work, z) {
         return false;
     }
-    if !free::is_right(a, z, 0) {
+    if !free::is_right(a, z, Kind::Branch) {
         return false;
     }
-    if !free::is_right(a, z, 1) {
+    if !free::is_right(a, z, Kind::Entry) {
         return false;
     }
     entries::have_own_keys(a, z)

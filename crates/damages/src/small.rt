@@ -2,6 +2,9 @@
 //! hash and stand in a chain at the last depth; at degree 2, whose path there would take more cells than the second decision
 //! knows, their hashes differ in a low bit.
 
+use shown::entries;
+use shown::entries::{CHAIN, Entry};
+
 // An arena of a degree: its branch cells, enough for the path to the last depth, twice; its words; and the hash of the entry
 // that is inserted last.
 #[derive(Clone, Copy, Debug)]
@@ -11,8 +14,6 @@ pub struct Arena {
     pub words: usize,
     last_hash: u64,
 }
-
-const CHAIN: u64 = 0x7000000000000008;
 
 pub const ALL: [Arena; 6] = [
     Arena {
@@ -58,8 +59,8 @@ pub const ENTRIES: u64 = 6;
 pub const SLOTS: u64 = 4;
 
 // The next edition in the place of the one that it is made from.
-fn replace(a: &mut [u64], edition: u64, hash: u64, key: u64, value: u64) {
-    let _ = shelf::insert(a, edition, hash, key, value);
+fn replace(a: &mut [u64], edition: u64, e: Entry) {
+    let _ = shelf::insert(a, edition, e.hash, e.key, e.value);
     let _ = shelf::drop(a, edition);
 }
 
@@ -68,7 +69,7 @@ pub fn make(a: &mut [u64], arena: Arena) {
     let _ = shelf::format(a, arena.degree, arena.branches, ENTRIES, SLOTS);
     let _ = shelf::new_edition(a);
     let _ = shelf::insert(a, 0, 0x26, 1, 10);
-    replace(a, 1, CHAIN, 4, 40);
-    replace(a, 2, 0x42, 3, 30);
+    replace(a, 1, entries::of_step(4));
+    replace(a, 2, entries::of_step(3));
     let _ = shelf::insert(a, 1, arena.last_hash, 5, 50);
 }

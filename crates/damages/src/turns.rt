@@ -1,6 +1,7 @@
 //! Every word, every value, both decisions.
 use crate::small;
 use crate::small::Arena;
+use shelf::Refusal;
 use shown::{answer, lent};
 use std::io;
 
@@ -19,30 +20,31 @@ pub struct Tried {
 
 impl Tried {
     // And one more, with both answers.
-    fn with(mut self, check: u64, plain: u64) -> Self {
-        self.arenas = answer::count(self.arenas);
-        if check == 0 {
-            self.sound = answer::count(self.sound);
+    fn with(mut self, check: Result<(), Refusal>, plain: Result<(), Refusal>) -> Self {
+        self.arenas = self.arenas.saturating_add(1);
+        if check.is_ok() {
+            self.sound = self.sound.saturating_add(1);
         }
         if check != plain {
-            self.differ = answer::count(self.differ);
+            self.differ = self.differ.saturating_add(1);
         }
         self
     }
 }
 
 // What check answers.
-fn check(a: &[u64]) -> u64 {
+fn check(a: &[u64]) -> Result<(), Refusal> {
     let mut work = [0u64; WORK];
-    match shelf::check(a, &mut work) {
-        Ok(()) => 0,
-        Err(why) => why.number(),
-    }
+    shelf::check(a, &mut work)
 }
 
 // What it has to answer by the second decision.
-fn plainly(a: &[u64]) -> u64 {
-    if reaches::is_sound(a) { 0 } else { 4 }
+fn plainly(a: &[u64]) -> Result<(), Refusal> {
+    if reaches::is_sound(a) {
+        Ok(())
+    } else {
+        Err(Refusal::Damaged)
+    }
 }
 
 // The values that a word is changed to.
@@ -89,11 +91,11 @@ fn try_words(a: &mut [u64], words: usize) -> Tried {
     tried
 }
 
-fn say(rt: &impl Print, check: u64, plain: u64) -> io::Result<()> {
-    if check == 0 && plain == 0 {
-        print::say(rt, b", sound\n")
+fn say(rt: &impl Print, check: Result<(), Refusal>, plain: Result<(), Refusal>) -> io::Result<()> {
+    if check.is_ok() && plain.is_ok() {
+        println!(rt; ", sound")
     } else {
-        print::say(rt, b", NOT SOUND\n")
+        println!(rt; ", NOT SOUND")
     }
 }
 
@@ -105,7 +107,7 @@ fn say_small(rt: &impl Print, a: &[u64], arena: Arena) -> io::Result<()> {
         arena.branches,
         small::ENTRIES
     )?;
-    answer::say_use(rt, b", in use", a)?;
+    answer::say_use(rt, ", in use", a)?;
     say(rt, check(a), plainly(a))
 }
 
@@ -125,10 +127,7 @@ fn tell(rt: &impl Print, arena: Arena) -> io::Result<()> {
 }
 
 pub fn show(rt: &impl Print) -> io::Result<()> {
-    print::say(
-        rt,
-        b"Each word changed in turn (check, and a decision by reachability)\n",
-    )?;
+    println!(rt; "Each word changed in turn (check, and a decision by reachability)")?;
     for arena in small::ALL {
         tell(rt, arena)?;
     }

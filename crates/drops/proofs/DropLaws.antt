@@ -1,9 +1,7 @@
 -- What drop leaves is what its definition says, and from that alone follows what it means: on a sound arena a refusal leaves the
 -- words as they are, and else the slot is empty, what it named and nothing else names is free, every other edition is the same
 -- named trie, and the arena stays sound.
-use Prim.Native.Nat.{ℕ}
-use mathlib.Core.Path.{◌≡◌, sym, ap, subst}
-use mathlib.Core.List.{List}
+use Rattle.std.proofs.Common.{◌≡◌, ℕ, List, Result, sym, ap, subst}
 use Rattle.cases.proofs.Cases.{split}
 use Rattle.layout.specs.declared.Shape.{Shape}
 use Rattle.layout.specs.Header.{Header}
@@ -22,7 +20,6 @@ use Rattle.drops.specs.Terms.{Drops}
 use Rattle.drops.proofs.CaseLaws.{drop_held, drop_not_held, drop_Right}
 use Rattle.drops.proofs.InsideLaws.{drop_inside}
 use Rattle.drops.proofs.FreeLaws.{Means, free_Means}
-use Rattle.std.specs.Prelude.{Result}
 use Rattle.replies.specs.declared.CellCounts.{CellCounts}
 
 refusal_Means : (a : List ℕ) (z : Shape) (e : ℕ) → Sound a → (why : Refusal) → Means a z e (leaves (refused why) a)

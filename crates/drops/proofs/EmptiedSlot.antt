@@ -1,7 +1,6 @@
 -- The words of a sound arena with the slot of an edition emptied: what its root named is in hand, and no other slot and no cell has
 -- changed.
-use Prim.Native.Nat.{ℕ, ◌+◌, ◌<◌}
-use mathlib.Core.List.{List}
+use Rattle.std.proofs.Common.{ℕ, ◌+◌, ◌<◌, List}
 use Rattle.counts.specs.Counts.{ind}
 use Rattle.layout.specs.declared.Shape.{Shape}
 use Rattle.layout.specs.Layout.{Lent}

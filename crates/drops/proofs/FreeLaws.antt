@@ -1,10 +1,6 @@
 -- What it means that an edition which is held is let go, on a sound arena: the slot is empty, what it named and nothing else names
 -- is free, every other edition is the same named trie, and the arena stays sound.
-use Prim.Native.Nat.{ℕ, ◌≤◌, ◌<◌}
-use mathlib.Core.Path.{◌≡◌, ap, ◌∙◌}
-use mathlib.Core.List.{[], List, ◌∷◌}
-use mathlib.Core.Logic.{inl, ⊎_elim}
-use native.Mathlib.Omega.{arith}
+use Rattle.std.proofs.Common.{◌≡◌, ℕ, ◌<◌, ◌≤◌, List, [], ◌∷◌, ap, ◌∙◌, inl, ⊎_elim, arith}
 use Rattle.cases.proofs.Cases.{eq?}
 use Rattle.trie.specs.Trie.{Map, empty, root, leaf, branch}
 use Rattle.layout.specs.declared.Shape.{Shape}

@@ -1,7 +1,6 @@
 -- Drop stays inside the arena, on any words with a right header: words 0 to 7, the words beyond the total and the length are
 -- kept, whatever is answered.
-use Prim.Native.Nat.{ℕ, ◌<◌}
-use mathlib.Core.List.{List}
+use Rattle.std.proofs.Common.{ℕ, ◌<◌, List}
 use Rattle.cases.proofs.Cases.{split}
 use Rattle.layout.specs.declared.Shape.{Shape}
 use Rattle.layout.specs.Layout.{Lent}

@@ -1,7 +1,5 @@
 -- Which number drop gives: document 01's table holds of the definitions of specs/Calls.antt, on any words.
-use Prim.Native.Nat.{ℕ}
-use mathlib.Core.Path.{refl}
-use mathlib.Core.List.{List}
+use Rattle.std.proofs.Common.{ℕ, List, refl}
 use Rattle.layout.specs.declared.Shape.{Shape}
 use Rattle.cells.proofs.SlotLaws.{held_is}
 use Rattle.replies.proofs.Tables.{End, HeaderNumbered, Held, Row, by_Held, end, Gives-done, header_numbered, not_Held-Gives, numbered, row}

@@ -10,10 +10,11 @@ ghost use Rattle.replies.specs.Outcomes.{leaves};
 ghost use Rattle.drops.specs.Calls.{free_words, free_in, drop_in};
 
 use cells::{shares, slots};
-use layout::{Shape, words};
+use layout::{Kind, Shape, words};
 use replies::{CellCounts, Refusal};
 
 // The slot is emptied first, then its root is let go.
+#[tactic(auto, using(crate::proofs::StepLaws::free_is, cells::proofs::KeptLaws::lent_same))]
 fn free(a: &mut [u64], z: Shape, edition: u64)
     requires lent { Lent z a.old }
     requires in_slots { edition < z.slots }
@@ -25,21 +26,29 @@ fn free(a: &mut [u64], z: Shape, edition: u64)
 }
 
 // Both numbers freed are what the counts of the cells in use fell by.
+#[tactic(auto, using(cells::proofs::KeptLaws::lent_same), unfolding(crate::specs::Calls::free_in))]
 fn drop_held(a: &mut [u64], z: Shape, edition: u64) -> Result<CellCounts, Refusal>
     requires lent { Lent z a.old }
     requires in_slots { edition < z.slots }
     ensures { leaves (cells_answer result) a.new ≡ free_in z a.old edition }
 {
-    let branches = words::kind_word(&*a, z, words::IN_USE, 0);
-    let entries = words::kind_word(&*a, z, words::IN_USE, 1);
+    let branches = words::kind_word(&*a, z, words::IN_USE, Kind::Branch);
+    let entries = words::kind_word(&*a, z, words::IN_USE, Kind::Entry);
     free(&mut *a, z, edition);
     Ok(CellCounts {
-        branches: shares::less(branches, words::kind_word(&*a, z, words::IN_USE, 0)),
-        entries: shares::less(entries, words::kind_word(&*a, z, words::IN_USE, 1)),
+        branches: shares::less(
+            branches,
+            words::kind_word(&*a, z, words::IN_USE, Kind::Branch),
+        ),
+        entries: shares::less(
+            entries,
+            words::kind_word(&*a, z, words::IN_USE, Kind::Entry),
+        ),
     })
 }
 
 // An edition is let go, with every cell that no other edition reaches.
+#[tactic(auto, using(cells::proofs::SlotLaws::held_in), unfolding(crate::specs::Calls::drop_in))]
 pub fn drop(a: &mut [u64], z: Shape, edition: u64) -> Result<CellCounts, Refusal>
     requires { Lent z a.old }
     ensures { leaves (cells_answer result) a.new ≡ drop_in z a.old edition }

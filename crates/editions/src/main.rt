@@ -6,6 +6,7 @@
 
 mod refusals;
 mod shared;
+mod sizes;
 mod slots;
 
 use std::io;

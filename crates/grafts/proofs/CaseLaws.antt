@@ -9,7 +9,8 @@ use lib.ListN.{length}
 use Rattle.segments.specs.Segments.{segment}
 use Rattle.layout.specs.declared.Shape.{Shape}
 use Rattle.trie.specs.Cells.{along}
-use Rattle.trie.specs.Entry.{Entry, matches, Got, absent, got, if_got}
+use Rattle.trie.specs.declared.Entry.{Entry}
+use Rattle.trie.specs.Entry.{matches, Got, absent, got, if_got}
 use Rattle.trie.specs.Trie.{Item, Node, leaf, branch, Kids, put, single, none, item, Map, chain, get_node, get, find, list_remove_first, push_front}
 use Rattle.trie.proofs.ChainLaws.{find_hit, find_miss, copied_hit}
 use Rattle.trie.proofs.InsertCases.{InsertCase, in_chain, replaced, deeper, apart, new_child, in_child}

@@ -135,15 +135,9 @@ or_none a b e =
     (omega (arith, e, or_add_and a b, and_le_l a b, and_le_r a b), omega (arith, e, or_add_and a b, and_le_l a b, and_le_r a b))
 
 module _ (f : ℕ → ℕ) (n : ℕ) where
-  pub none_yet : NoneFrom n n f
-  none_yet k l h = absurd (omega arith)
-
   pub none_next : (m rest : ℕ) → bit_or rest (f m) ≡ 0 → (rest ≡ 0 → NoneFrom n m f) → NoneFrom n (m + 1) f
   none_next m rest e none k l h =
       ⊎_elim
       (λ q. ap f q ∙ (or_none rest (f m) e).1)
       (λ ne. none (or_none rest (f m) e).0 k l (omega (arith, ne)))
       (eq? k m)
-
-  pub none_all : (m d : ℕ) → d ≤ m → NoneFrom n m f → NoneFrom n d f
-  none_all m d l none k lk h = none k lk (omega arith)

@@ -16,7 +16,8 @@ use Rattle.layout.specs.declared.Shape.{Shape}
 use Rattle.layout.specs.Layout.{cell_of, Lent}
 use Rattle.layout.specs.Columns.{State, columns}
 use Rattle.layout.proofs.SizeLaws.{row_is_Right}
-use Rattle.trie.specs.Entry.{Entry, Word64}
+use Rattle.trie.specs.declared.Entry.{Entry}
+use Rattle.trie.specs.Entry.{Word64}
 use Rattle.trie.specs.Trie.{Item, Node, leaf, branch, Kids, none, kid, missing, found, child, item, single, put, get_node, push_front}
 use Rattle.trie.proofs.InsertCases.{InsertCase, in_chain, replaced, deeper, apart, new_child, in_child}
 use Rattle.trie.proofs.KidsLaws.{child_hit, child_only, put_hit}

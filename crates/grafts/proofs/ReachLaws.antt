@@ -10,7 +10,8 @@ use Rattle.segments.specs.Segments.{segment}
 use Rattle.layout.specs.declared.Shape.{Shape}
 use Rattle.layout.specs.Columns.{State}
 use Rattle.layout.proofs.SizeLaws.{row_is_Right}
-use Rattle.trie.specs.Entry.{Entry, Word64}
+use Rattle.trie.specs.declared.Entry.{Entry}
+use Rattle.trie.specs.Entry.{Word64}
 use Rattle.trie.specs.Trie.{Item, Node, leaf, Kids, none, missing, found, child, get_node}
 use Rattle.trie.proofs.InsertCases.{InsertCase, in_chain, replaced, deeper, apart, new_child, in_child}
 use Rattle.trie.proofs.KidsLaws.{child_hit, child_only}

@@ -1,4 +1,5 @@
 -- The steps of a new path, as the mirrors have them.
+use Rattle.std.proofs.lemmas.Nat.{one_shl}
 use Prim.Native.Nat.{ℕ, zero, suc, ◌+◌, ◌-◌, ◌*◌, ◌%◌, ◌^◌, ◌≤◌, ◌<◌}
 use mathlib.Core.Path.{◌≡◌, refl, sym, ap, ap₂, ◌∙◌}
 use mathlib.Core.Bool.{Bool, true, false}
@@ -18,7 +19,7 @@ use Rattle.sparse_array.specs.Bitmap.{bit, below}
 use Rattle.std.specs.Prelude.{Some, None, Ok, Err}
 use Rattle.sparse_array.specs.Places.{Place, place_of}
 use Rattle.sparse_array.proofs.Places.{place_Says}
-use Rattle.sparse_array.proofs.Bitmap.{shl_one, below_le}
+use Rattle.sparse_array.proofs.Bitmap.{below_le}
 use Rattle.layout.specs.declared.Shape.{Shape}
 use Rattle.layout.specs.Layout.{kind_of, names, Allowed, Lent}
 use Rattle.layout.proofs.SizeLaws.{small}
@@ -61,7 +62,7 @@ module _ (z : Shape) (a : List ℕ) (t r : ℕ) where
       → s ≡ segment z.bits t h → 1 * 2 ^ s % 2 ^ 64 ≡ kid_bits z (columns z a) t r
   entry_bits h s f e w eh es =
       let low : s < 64 = rw es (segment_low z w t h) in
-      shl_one s low ∙ rw (es, eh) (sym (bits_entry f e))
+      one_shl s 64 low ∙ rw (es, eh) (sym (bits_entry f e))
 
   pub bits_none : names_kind z 0 r ≡ false → names_kind z 1 r ≡ false → kid_bits z (columns z a) t r ≡ 0
   unfolding kid_bits

@@ -6,6 +6,8 @@
 //!
 //! A caller may rely on this: on any words a graft goes no deeper than the degree has depths, writes what its mirror in
 //! specs/Grafts.antt says and stays inside the arena, and answers 0 where no cell could be taken.
+//!
+//! A reference is answered as it is stored, 0 for none: that is document 01's word for it, and what `Wrote` in the mirrors holds.
 
 #![tactic(auto)]
 
@@ -19,11 +21,8 @@ ghost use Rattle.cells.specs.Mirrors.{Wrote, wrote, listed};
 ghost use Rattle.grafts.specs.Grafts.{stops, onward_in, reach_from, IsRow, Blank, NoneFrom, row_at, row_shared, branch_made, child_put, below_put, graft_from};
 
 use cells::{fill, free, shares};
-use layout::{Shape, table, words};
+use layout::{Kind, Shape, table, words};
 use lookup::links;
-
-// The kind of a branch cell.
-const BRANCH: u64 = 0;
 
 // How many branches the path of a new entry has, and which chain stands at its end already: 0 where none does, and where
 // the entry takes the place of a single one.
@@ -165,7 +164,7 @@ pub fn new_branch(a: &mut [u64], z: Shape, depth: u64, bitmap: u64, row: &[u64; 
     requires { Lent z a.old }
     ensures { wrote result a.new ≡ branch_made z a.old depth bitmap (listed row.now) }
 {
-    let r = free::take(&mut *a, z, BRANCH);
+    let r = free::take(&mut *a, z, Kind::Branch);
     if r == 0 {
         return 0;
     }

@@ -1,11 +1,5 @@
 -- What an update leaves, case by case, on any words: the tests of specs/Rooms.antt in their order, and its end.
-use Prim.Native.Nat.{ℕ, ◌≤◌, ◌<◌}
-use mathlib.Core.Path.{◌≡◌, sym, ap, ◌∙◌, subst}
-use mathlib.Core.Bool.{Bool, true, false}
-use mathlib.Core.List.{List}
-use mathlib.Core.Logic.{⊎_elim}
-use native.Mathlib.Omega.{arith}
-use borrow.Author.Tests.{lt-ltb, le-ltb}
+use Rattle.std.proofs.Common.{◌≡◌, ℕ, ◌<◌, ◌≤◌, Bool, true, false, List, Some, None, Ok, Err, Result, sym, ap, ◌∙◌, subst, ⊎_elim, arith, le-ltb, lt-ltb}
 use Rattle.cases.proofs.Cases.{split, eq?, lt?}
 use Rattle.layout.specs.declared.Shape.{Shape}
 use Rattle.layout.specs.Header.{header_of}
@@ -19,7 +13,6 @@ use Rattle.replies.proofs.AnswerLaws.{header_Right, header_Wrong, wrote_none, wr
 use Rattle.replies.proofs.Tables.{by_free}
 use Rattle.grants.specs.Rooms.{free_cell_count, enough, room_of, on_room, update_in, held_to, hold_to}
 use Rattle.cells.proofs.SlotLaws.{free_slot_in}
-use Rattle.std.specs.Prelude.{Some, None, Result, Ok, Err}
 
 -- what a call knows of an update once it has read: whether the key is as it wants it, how many cells of each kind are taken, and
 -- what it does with a slot
@@ -158,7 +151,7 @@ module _ {P : Type 0} (z : Shape) (a : List ℕ) (e : ℕ) (u : P → Update) (p
 
 -- THE SLOT
 module _ (z : Shape) (s size branches entries : ℕ) (w : Wrote) where
-  pub hold_none : w.at ≡ 0 → hold_to z s size branches entries w ≡ leaves (refused Why.NoBranchCells) w.words
+  hold_none : w.at ≡ 0 → hold_to z s size branches entries w ≡ leaves (refused Why.NoBranchCells) w.words
   unfolding hold_to
   hold_none q = wrote_none w Why.NoBranchCells (held_to z s size branches entries) q
 

@@ -1,8 +1,6 @@
 -- An update stays inside the arena, on any words with a right header, if what it does with a slot does, and so does its end: words 0
 -- to 7, the words beyond the total and the length are kept, whatever is answered.
-use Prim.Native.Nat.{ℕ, ◌<◌}
-use mathlib.Core.List.{List}
-use mathlib.Core.Logic.{⊎_elim}
+use Rattle.std.proofs.Common.{ℕ, ◌<◌, List, ⊎_elim}
 use Rattle.cases.proofs.Cases.{eq?}
 use Rattle.layout.specs.declared.Shape.{Shape}
 use Rattle.layout.specs.Layout.{Allowed}

@@ -1,13 +1,7 @@
 -- What an update leaves is what its definition says, and from that alone follows what it means: on a sound arena a refusal leaves the
 -- words as they are, and else the lowest free slot holds what the step makes of the edition, all others stay as they are, and the
 -- arena stays sound. All that an update has to show of itself for this is in `Writer` and `Builds`.
-use Prim.Native.Nat.{ℕ, ◌<◌, ◌≤◌}
-use mathlib.Core.Path.{◌≡◌, sym, ap, ◌∙◌, subst}
-use mathlib.Core.Bool.{true, false}
-use mathlib.Core.List.{List}
-use mathlib.Core.Logic.{◌↔◌}
-use native.Mathlib.Omega.{arith}
-use lib.ListN.{length}
+use Rattle.std.proofs.Common.{◌≡◌, ℕ, ◌<◌, ◌≤◌, true, false, ◌↔◌, List, length, Some, Result, sym, ap, ◌∙◌, subst, arith}
 use Rattle.segments.specs.Segments.{segment}
 use Rattle.layout.specs.declared.Shape.{Shape}
 use Rattle.layout.specs.Layout.{Lent}
@@ -41,7 +35,6 @@ use Rattle.grants.proofs.InsideLaws.{update_Kept}
 use Rattle.grants.proofs.SlotLaws.{AnswersSlot, update_slot}
 use Rattle.grants.proofs.TableLaws.{UpdateWhen, update_numbered}
 use Rattle.grants.proofs.FreshLaws.{names_of_branches, names_of_entries, Written, free_cell_count_lem, Fresh-branches, Fresh-entries, branches_risen, entries_risen}
-use Rattle.std.specs.Prelude.{Some, Result}
 use Rattle.replies.specs.declared.Updated.{Updated}
 
 -- WHAT AN UPDATE DOES with slot s, from the words a with these free cells and the map m: it is done to its end, and the slot holds

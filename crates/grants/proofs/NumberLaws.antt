@@ -1,11 +1,6 @@
 -- Which number an update gives on any words: document 01's table for 4, 5, 6 and 7, where nothing is written. Else the number is 0,
 -- 8 or 9; the rows of these are exact where the free cells are as many as the counts say (TableLaws.antt).
-use Prim.Native.Nat.{ℕ, ◌≤◌, ◌<◌}
-use mathlib.Core.Path.{◌≡◌, refl, sym, ◌∙◌}
-use mathlib.Core.Bool.{false}
-use mathlib.Core.List.{List}
-use mathlib.Core.Logic.{◌⊎◌, ◌↔◌, inl, inr, ⊎_elim}
-use native.Mathlib.Omega.{arith}
+use Rattle.std.proofs.Common.{◌≡◌, ℕ, ◌<◌, ◌≤◌, false, ◌⊎◌, ◌↔◌, List, Some, None, Option, sym, refl, ◌∙◌, inl, inr, ⊎_elim, arith}
 use Rattle.cases.proofs.Cases.{eq?}
 use Rattle.layout.specs.declared.Shape.{Shape}
 use Rattle.layout.specs.Header.{Header, header_of}
@@ -20,7 +15,6 @@ use Rattle.replies.proofs.Tables.{AllHeld, End, Gives, HeaderNumbered, Held, Num
 use Rattle.grants.specs.Rooms.{free_cell_count, hold_to}
 use Rattle.grants.proofs.CaseLaws.{Update, update_by, update_of, by_cells, by_root, update_At, update_refused, update_Damaged, update_Right}
 use Rattle.grants.proofs.TestLaws.{Goes, by_tests, not_Held, absent, no_slot, on_slot, no_branches, no_entries}
-use Rattle.std.specs.Prelude.{Option, Some, None}
 
 -- THE TABLE on any words: its rows 5, 6 and 7, and an update that goes on gives one of three numbers
 abbrev pub AnyWhen : Shape → List ℕ → ℕ → Type 0 → ℕ → ℕ → Type 0

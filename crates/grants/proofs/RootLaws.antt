@@ -1,9 +1,6 @@
 -- What an update has written before it holds its slot, on an arena in the local form: the new root is in hand, and what lived is still
 -- there. Then the slot holds it, and no other slot is written.
-use Prim.Native.Nat.{ℕ, ◌<◌}
-use mathlib.Core.Path.{◌≡◌, sym, ◌∙◌}
-use mathlib.Core.List.{List}
-use native.Mathlib.Omega.{arith}
+use Rattle.std.proofs.Common.{◌≡◌, ℕ, ◌<◌, List, sym, ◌∙◌, arith}
 use Rattle.counts.specs.Counts.{ind}
 use Rattle.layout.specs.declared.Shape.{Shape}
 use Rattle.layout.specs.Layout.{Lent}

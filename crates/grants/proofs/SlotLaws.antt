@@ -1,7 +1,5 @@
 -- A new edition stands in the lowest free slot, on any words: wherever an update is done, its answer is the slot that was found.
-use Prim.Native.Nat.{ℕ}
-use mathlib.Core.Path.{◌≡◌, ap, ◌∙◌}
-use mathlib.Core.List.{List}
+use Rattle.std.proofs.Common.{◌≡◌, ℕ, List, Some, ap, ◌∙◌}
 use Rattle.layout.specs.declared.Shape.{Shape}
 use Rattle.cells.specs.Mirrors.{Wrote}
 use Rattle.cells.specs.Slots.{free_slot}
@@ -11,7 +9,6 @@ use Rattle.replies.specs.Outcomes.{Outcome}
 use Rattle.replies.proofs.AnswerLaws.{not_done}
 use Rattle.grants.specs.Rooms.{held_to, hold_to}
 use Rattle.grants.proofs.CaseLaws.{Update, update_by, either_way, by_root}
-use Rattle.std.specs.Prelude.{Some}
 
 -- where what is done with slot t says that it is done, it says so of t
 abbrev pub AnswersSlot : (ℕ → Outcome) → Type 0

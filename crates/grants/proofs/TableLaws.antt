@@ -1,10 +1,6 @@
 -- Document 01's whole table of an update, where what it has read says what it takes and the free cells are as many as the counts say:
 -- so it is on a sound arena.
-use Prim.Native.Nat.{ℕ, ◌≤◌, ◌<◌}
-use mathlib.Core.Path.{◌≡◌, refl, ◌∙◌}
-use mathlib.Core.Bool.{true, false}
-use mathlib.Core.List.{List}
-use mathlib.Core.Logic.{◌↔◌, ⊎_elim}
+use Rattle.std.proofs.Common.{◌≡◌, ℕ, ◌<◌, ◌≤◌, true, false, ◌↔◌, List, Some, refl, ◌∙◌, ⊎_elim}
 use Rattle.cases.proofs.Cases.{lt?}
 use Rattle.layout.specs.declared.Shape.{Shape}
 use Rattle.layout.specs.Header.{Header}
@@ -15,7 +11,6 @@ use Rattle.replies.proofs.Tables.{AllHeld, End, Gives, HeaderNumbered, Held, Num
 use Rattle.grants.specs.Rooms.{free_cell_count}
 use Rattle.grants.proofs.CaseLaws.{Update, update_by, update_of, room_at, update_At}
 use Rattle.grants.proofs.TestLaws.{Goes, by_tests, not_Held, absent, no_slot, on_slot, no_branches, no_entries}
-use Rattle.std.specs.Prelude.{Some}
 
 -- THE TABLE, by what 6 says and how many cells the update takes of each kind. 8 and 9: "more needed than free"
 abbrev pub UpdateWhen : Shape → List ℕ → ℕ → Type 0 → ℕ → ℕ → ℕ → Type 0

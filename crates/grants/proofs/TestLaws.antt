@@ -1,11 +1,6 @@
 -- The tests of an update with what each says, and the number that each gives where it refuses: all of them on any words, and nothing
 -- is written.
-use Prim.Native.Nat.{ℕ, ◌≤◌, ◌<◌}
-use mathlib.Core.Path.{◌≡◌}
-use mathlib.Core.Bool.{true, false}
-use mathlib.Core.List.{List}
-use mathlib.Core.Logic.{◌↔◌}
-use native.Mathlib.Omega.{arith}
+use Rattle.std.proofs.Common.{◌≡◌, ℕ, ◌<◌, ◌≤◌, true, false, ◌↔◌, List, Some, arith}
 use Rattle.cases.proofs.Cases.{split}
 use Rattle.layout.specs.declared.Shape.{Shape}
 use Rattle.cells.specs.Slots.{held_slot, free_slot}
@@ -15,7 +10,6 @@ use Rattle.replies.specs.Outcomes.{Outcome}
 use Rattle.replies.proofs.Tables.{AllHeld, Gives, Held, by_free, by_Held, Gives-refusal, not_Held-Gives}
 use Rattle.grants.specs.Rooms.{free_cell_count}
 use Rattle.grants.proofs.CaseLaws.{Update, update_by, room_none, room_few_branches, room_few_entries, update_Absent, update_not_held, update_refused}
-use Rattle.std.specs.Prelude.{Some}
 
 -- none of 5, 6 and 7, where Lacks says that the key is not as the call wants it
 abbrev pub Goes : Shape → List ℕ → ℕ → Type 0 → Type 0

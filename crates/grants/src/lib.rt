@@ -6,21 +6,21 @@
 #![tactic(auto)]
 
 ghost use Rattle.std.specs.Prelude.{◌≡◌, ◌<◌};
-ghost use Rattle.layout.specs.Layout.{Lent};
+ghost use Rattle.layout.specs.Layout.{number_of_kind, Lent};
 ghost use Rattle.cells.specs.Mirrors.{wrote};
 ghost use Rattle.replies.specs.Answers.{update_answer};
 ghost use Rattle.replies.specs.Outcomes.{leaves};
 ghost use Rattle.grants.specs.Rooms.{free_cell_count, room_of, held_to, hold_to};
 
 use cells::{shares, slots};
-use layout::{Shape, words};
+use layout::{Kind, Shape, words};
 use replies::{Refusal, Updated};
 
 // How many cells of a kind are free: those that are not in use.
-fn free_cells(a: &[u64], z: Shape, kind: u64) -> u64
-    requires lent { Lent z a.now }
-    requires is_kind { kind < 2 }
-    ensures { result ≡ free_cell_count z a.now kind }
+#[tactic(auto, unfolding(crate::specs::Rooms::free_cell_count))]
+fn free_cells(a: &[u64], z: Shape, kind: Kind) -> u64
+    requires { Lent z a.now }
+    ensures { result ≡ free_cell_count z a.now (number_of_kind kind) }
 {
     shares::less(
         words::cells_of(z, kind),
@@ -35,10 +35,10 @@ pub fn find_room(a: &[u64], z: Shape, branches: u64, entries: u64) -> Result<u64
     ensures { result ≡ room_of z a.now branches entries }
 {
     let slot = slots::lowest_free(a, z).ok_or(Refusal::NoSlot)?;
-    if free_cells(a, z, 0) < branches {
+    if free_cells(a, z, Kind::Branch) < branches {
         return Err(Refusal::NoBranchCells);
     }
-    if free_cells(a, z, 1) < entries {
+    if free_cells(a, z, Kind::Entry) < entries {
         return Err(Refusal::NoEntryCells);
     }
     Ok(slot)
@@ -67,6 +67,7 @@ pub fn hold_edition(
 }
 
 // The same with the root that was written, which is 0 where no branch cell could be taken; then no slot is taken either.
+#[tactic(auto, unfolding(crate::specs::Rooms::hold_to, replies::specs::Outcomes::on_wrote))]
 pub fn hold_root(
     a: &mut [u64],
     z: Shape,

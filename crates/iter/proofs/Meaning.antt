@@ -12,7 +12,7 @@ use native.Mathlib.Nat.{mul-le-mul}
 use native.Mathlib.Omega.{arith}
 use lib.ListN.{length}
 use Rattle.cases.proofs.Cases.{lt?}
-use Rattle.trie.specs.Entry.{Entry}
+use Rattle.trie.specs.declared.Entry.{Entry}
 use Rattle.trie.specs.Trie.{Node, leaf, branch, Kids, none, kid, Item, Map, empty, root, listing_chain, listing_node, listing_kids, listing}
 use Rattle.trie.specs.Canon.{AllKids, Some, Busy, Canon, Canonical}
 use Rattle.trie.specs.Names.{cells, total, totals, branch_sum, entry_sum, on_map}

@@ -16,7 +16,7 @@ use mathlib.Core.List.{List, [], ◌∷◌}
 use native.Mathlib.Omega.{arith}
 use lib.Dec.{eqb, ltb}
 use lib.Seq.{get_or-set_same, get_or-set_other}
-use Rattle.trie.specs.Entry.{Entry}
+use Rattle.trie.specs.declared.Entry.{Entry}
 use Rattle.layout.specs.declared.Shape.{Shape}
 use Rattle.lookup.specs.Lookup.{names_kind, entry_at}
 use Rattle.iter.specs.declared.Walk.{Walk}

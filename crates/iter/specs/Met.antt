@@ -2,7 +2,7 @@
 -- edition this is the trie's listing (proofs/Meaning.antt); on damaged words it is what the walk comes to, at most as many cells
 -- as it has steps.
 use Rattle.std.specs.Prelude.{ℕ, zero, suc, ◌+◌, ◌*◌, ◌/◌, ◌%◌, ◌≤◌, ◌<◌, ◌≡◌, Bool, false, cond, List, [], ◌∷◌, eqb, ltb, length, get_or}
-use Rattle.trie.specs.Entry.{Entry}
+use Rattle.trie.specs.declared.Entry.{Entry}
 use Rattle.layout.specs.declared.Shape.{Shape}
 use Rattle.layout.specs.Columns.{State, columns}
 use Rattle.lookup.specs.Lookup.{names_kind, entry_at}

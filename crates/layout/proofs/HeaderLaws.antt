@@ -140,10 +140,6 @@ module _ (a : List ℕ) (z : Shape) where
   unfolding right_in
   right_is y e f = rw (e, f)
 
-  pub right_not : (y : Result Shape Misfit) → y ≡ Ok z → are_offsets_fit a z ≡ false → right_in a y ≡ None
-  unfolding right_in
-  right_not y e f = rw (e, f)
-
   chosen : (x : Bool) (y : _) → cond x y None ≡ Some z → (x ≡ true) × (y ≡ Some z)
   chosen true y e = (refl, e)
   chosen false y e = absurd (let m : ◌≡◌ {A = ℕ} 0 1 = cc in omega arith)

@@ -1,4 +1,5 @@
 pub mod SizeLaws
+pub mod KindLaws
 pub mod OffsetLaws
 pub mod StoreLaws
 pub mod ColumnLaws

@@ -1,11 +1,8 @@
 -- What an allowed shape is bounded by: no offset and no sum on the way to one leaves a 64-bit word, since an arena has fewer
 -- than a hundred million words.
-use Prim.Native.Nat.{◌+◌, ◌*◌, ◌≤◌}
-use native.Mathlib.Nat.{mul-le-mul}
-use native.Mathlib.Omega.{arith}
-use lib.Pow.{pow_mono}
+use Rattle.std.proofs.Common.{ℕ, ◌+◌, ◌*◌, ◌<◌, ◌≤◌, mul-le-mul, arith, pow_mono}
 use Rattle.segments.specs.Segments.{Row, row}
-use Rattle.segments.proofs.TableLaws.{Right, row_of_in, row_Right}
+use Rattle.segments.proofs.TableLaws.{Right, row_of_in, row_Right, below_depths}
 use Rattle.layout.specs.declared.Shape.{Shape}
 use Rattle.layout.specs.Layout.{Allowed}
 
@@ -15,6 +12,10 @@ row_in z w = row z.degree z.bits z.depths w.last
 
 pub row_is_Right : (z : Shape) (w : Allowed z) → Right (row_in z w)
 row_is_Right z w = row_Right (row_in z w) (row_of_in z.degree z.bits z.depths w.last w.in_table)
+
+-- so a hash has a segment at each depth of the degree
+pub has_segment : (z : Shape) → Allowed z → (t : ℕ) → t < z.depths → (t * z.bits < 64) × (z.bits ≤ 6)
+has_segment z w t l = let k = row_is_Right z w in ((below_depths (row_in z w) k t).0 l, k.few_bits)
 
 -- the three parts of an arena behind its header
 pub record Small (z : Shape) : Type 0 where

@@ -3,11 +3,17 @@
 use Rattle.std.specs.Prelude.{ℕ, ◌+◌, ◌-◌, ◌*◌, ◌/◌, ◌%◌, ◌≤◌, ◌≡◌, Bool, false, cond, List, eqb, ltb, length}
 use Rattle.segments.specs.Segments.{row_of}
 use Rattle.layout.specs.declared.Shape.{Shape}
+use Rattle.layout.specs.declared.Kind.{Kind}
+use Rattle.layout.specs.declared.Kind.TheVariants.{Branch, Entry}
 use Rattle.segments.specs.Segments.{found}
 
 -- REFERENCES. "0 is none, branch cell i is 2i+2, entry cell i is 2i+3." The kind of a branch is 0, that of an entry 1.
 abbrev pub reference : ℕ → ℕ → ℕ
 reference k i = 2 * i + 2 + k
+
+abbrev pub number_of_kind : Kind → ℕ
+number_of_kind Branch = 0
+number_of_kind Entry = 1
 
 abbrev pub kind_of : ℕ → ℕ
 kind_of r = r % 2

@@ -4,10 +4,10 @@
 //! one behind the other.
 ghost use Rattle.std.specs.Prelude.{◌≡◌, cond, ◌∷◌, suc, ◌+◌, ◌-◌, ◌*◌, ◌≤◌, ◌<◌, eqb, length};
 ghost use Rattle.std.proofs.lemmas.List.Edits.{sets};
-ghost use Rattle.layout.specs.Layout.{reference, most_entries, Lent};
+ghost use Rattle.layout.specs.Layout.{reference, number_of_kind, most_entries, Lent};
 ghost use Rattle.layout.specs.Blank.{zeros, free_cell_words, header, blank};
 
-use crate::{Shape, header};
+use crate::{Kind, Shape, header};
 
 // `n` zeros from `at` on.
 fn zeros(a: &mut [u64], at: usize, n: usize)
@@ -18,11 +18,11 @@ fn zeros(a: &mut [u64], at: usize, n: usize)
 }
 
 // The next free reference in cell `i` of `n` free ones: it names the cell behind, and the last has none.
-fn next_free(kind: u64, i: u64, n: u64) -> u64
-    requires { (kind < 2) × (i < n) × (n ≤ most_entries) }
-    ensures { result ≡ cond (eqb (n - (i + 1)) 0) 0 (reference kind (suc i)) }
+fn next_free(kind: Kind, i: u64, n: u64) -> u64
+    requires { (i < n) × (n ≤ most_entries) }
+    ensures { result ≡ cond (eqb (n - (i + 1)) 0) 0 (reference (number_of_kind kind) (suc i)) }
 {
-    if i + 1 == n { 0 } else { 2 * i + 4 + kind }
+    if i + 1 == n { 0 } else { kind.reference(i + 1) }
 }
 
 // A free cell: count 0, the next free reference, and `rest` zeros.
@@ -36,9 +36,9 @@ fn free_cell(a: &mut [u64], at: usize, next: u64, rest: usize)
 }
 
 // `n` free cells of a kind from `at` on, with `rest` words behind the first two of each, chained in ascending order.
-fn free_cells(a: &mut [u64], at: usize, kind: u64, rest: usize, n: u64)
-    requires { (kind < 2) × (n ≤ most_entries) × (at + n * (2 + rest) ≤ length a.old) }
-    ensures { a.new ≡ sets a.old at (free_cell_words kind rest 0 n) }
+fn free_cells(a: &mut [u64], at: usize, kind: Kind, rest: usize, n: u64)
+    requires { (n ≤ most_entries) × (at + n * (2 + rest) ≤ length a.old) }
+    ensures { a.new ≡ sets a.old at (free_cell_words (number_of_kind kind) rest 0 n) }
 {
     let mut here = at;
     for i in 0..n {
@@ -80,9 +80,9 @@ pub fn lay_out(a: &mut [u64], z: Shape)
     free_cells(
         a,
         header::at_branches(z) as usize,
-        0,
+        Kind::Branch,
         (1 + z.degree) as usize,
         z.branches,
     );
-    free_cells(a, header::at_entries(z) as usize, 1, 4, z.entries);
+    free_cells(a, header::at_entries(z) as usize, Kind::Entry, 4, z.entries);
 }

@@ -15,6 +15,9 @@
 
 #![tactic(auto)]
 
+ghost use Rattle.std.specs.Prelude.{◌≡◌, ◌≤◌};
+ghost use Rattle.layout.specs.Layout.{reference, number_of_kind, kind_of, most_entries};
+
 pub mod format;
 pub mod header;
 pub mod table;
@@ -22,6 +25,8 @@ pub mod words;
 
 // What the header says and no call but format changes: the degree with its row in the table, how many words a slot has,
 // and how many slots, branch cells and entry cells there are.
+// No ghost field says what is allowed: the definitions of specs/ make shapes of any degree and sizes (`shape_of`), and each would
+// owe its proof. The arena stands beside its shape in every call, since document 01 lends it as a slice.
 #[derive(Clone, Copy, Debug, PartialEq, Eq)]
 pub struct Shape {
     pub degree: u64,
@@ -31,6 +36,44 @@ pub struct Shape {
     pub slots: u64,
     pub branches: u64,
     pub entries: u64,
+}
+
+// The two kinds of cells.
+#[derive(Clone, Copy, Debug, PartialEq, Eq)]
+pub enum Kind {
+    Branch,
+    Entry,
+}
+
+impl Kind {
+    // The kind of the cell that a reference names, told by its last bit.
+    pub fn of(r: u64) -> Kind
+        ensures { number_of_kind result ≡ kind_of r }
+    {
+        if r % 2 == 0 {
+            Kind::Branch
+        } else {
+            Kind::Entry
+        }
+    }
+
+    // The last bit of each reference that names a cell of the kind.
+    pub fn number(self) -> u64
+        ensures { result ≡ number_of_kind self }
+    {
+        match self {
+            Kind::Branch => 0,
+            Kind::Entry => 1,
+        }
+    }
+
+    // The reference that names cell `i` of the kind.
+    pub fn reference(self, i: u64) -> u64
+        requires { i ≤ most_entries }
+        ensures { result ≡ reference (number_of_kind self) i }
+    {
+        2 * i + 2 + self.number()
+    }
 }
 
 // Why a degree and three sizes make no arena.

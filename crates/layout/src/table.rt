@@ -6,7 +6,7 @@ ghost use Rattle.layout.specs.Layout.{kind_of, word_at, names, has, Allowed, Len
 ghost use Rattle.layout.specs.Columns.{word, word_set};
 ghost use Rattle.layout.specs.Table.{table_of};
 
-use crate::{Shape, words};
+use crate::{Kind, Shape, words};
 
 // Where the numbers of cells, the offsets and the widths stand in the table, two words each.
 const CELLS: u64 = 0;
@@ -21,12 +21,12 @@ pub fn of(z: Shape) -> [u64; 6]
     ensures { result ≡ table_of z }
 {
     [
-        words::cells_of(z, 0),
-        words::cells_of(z, 1),
-        words::at_cells(z, 0),
-        words::at_cells(z, 1),
-        words::width_of(z, 0),
-        words::width_of(z, 1),
+        words::cells_of(z, Kind::Branch),
+        words::cells_of(z, Kind::Entry),
+        words::at_cells(z, Kind::Branch),
+        words::at_cells(z, Kind::Entry),
+        words::width_of(z, Kind::Branch),
+        words::width_of(z, Kind::Entry),
     ]
 }
 
@@ -35,7 +35,7 @@ fn picked(t: &[u64], part: u64, r: u64) -> u64
     requires { (length t.now ≡ 6) × (part ≤ 4) }
     ensures { result ≡ get_or t.now (part + kind_of r) 0 }
 {
-    t[(part + r % 2) as usize]
+    t[(part + Kind::of(r).number()) as usize]
 }
 
 // Whether a reference names a cell.

@@ -3,10 +3,10 @@
 //! A cell is given by the reference that names it, which tells its kind and its number, and a word of it by its place.
 //! Callers have seen that the reference names a cell (`is_cell`) before they ask for its words.
 ghost use Rattle.std.specs.Prelude.{◌≡◌, true, cond, ◌+◌, ◌≤◌, ◌<◌, eqb, set};
-ghost use Rattle.layout.specs.Layout.{width_of, cells_of, cells_at, slot_at, word_at, names, has, Allowed, Lent};
-ghost use Rattle.layout.specs.Columns.{word_of_slot, word, by_kind, word_set, slot_word_set};
+ghost use Rattle.layout.specs.Layout.{number_of_kind, kind_of, width_of, cells_of, cells_at, slot_at, word_at, names, has, Allowed, Lent};
+ghost use Rattle.layout.specs.Columns.{word_of_slot, word, by_kind, kid_place, word_set, slot_word_set};
 
-use crate::{Shape, header};
+use crate::{Kind, Shape, header};
 
 // The places of a cell's words. A branch keeps its bitmap where an entry keeps its next.
 pub const COUNT: u64 = 0;
@@ -37,34 +37,47 @@ pub const ROOT: u64 = 1;
 
 pub const SIZE: u64 = 2;
 
-// What a branch has, or an entry.
-fn pick(kind: u64, branch: u64, entry: u64) -> u64
-    ensures { result ≡ cond (eqb kind 0) branch entry }
-{
-    if kind == 0 { branch } else { entry }
-}
-
 // How many cells there are of a kind.
 #[tactic(auto, unfolding(crate::specs::Layout::cells_of))]
-pub fn cells_of(z: Shape, kind: u64) -> u64
-    ensures { result ≡ cells_of z kind }
+pub fn cells_of(z: Shape, kind: Kind) -> u64
+    ensures { result ≡ cells_of z (number_of_kind kind) }
 {
-    pick(kind, z.branches, z.entries)
+    match kind {
+        Kind::Branch => z.branches,
+        Kind::Entry => z.entries,
+    }
 }
 
-pub fn width_of(z: Shape, kind: u64) -> u64
+#[tactic(auto, unfolding(crate::specs::Layout::width_of))]
+pub fn width_of(z: Shape, kind: Kind) -> u64
     requires { Allowed z }
-    ensures { result ≡ width_of z kind }
+    ensures { result ≡ width_of z (number_of_kind kind) }
 {
-    pick(kind, 3 + z.degree, 6)
+    match kind {
+        Kind::Branch => 3 + z.degree,
+        Kind::Entry => 6,
+    }
 }
 
 #[tactic(auto, unfolding(crate::specs::Layout::cells_at))]
-pub fn at_cells(z: Shape, kind: u64) -> u64
+pub fn at_cells(z: Shape, kind: Kind) -> u64
     requires { Allowed z }
-    ensures { result ≡ cells_at z kind }
+    ensures { result ≡ cells_at z (number_of_kind kind) }
 {
-    pick(kind, header::at_branches(z), header::at_entries(z))
+    match kind {
+        Kind::Branch => header::at_branches(z),
+        Kind::Entry => header::at_entries(z),
+    }
+}
+
+// The place from which on a cell holds references: a branch its children, an entry its next.
+pub fn first_kid(r: u64) -> u64
+    ensures { result ≡ kid_place (kind_of r) }
+{
+    match Kind::of(r) {
+        Kind::Branch => CHILDREN,
+        Kind::Entry => NEXT,
+    }
 }
 
 // Whether a reference names a cell. References 0 and 1 name none.
@@ -75,7 +88,7 @@ pub fn is_cell(z: Shape, r: u64) -> bool
     if r < 2 {
         return false;
     }
-    r / 2 - 1 < cells_of(z, r % 2)
+    r / 2 - 1 < cells_of(z, Kind::of(r))
 }
 
 fn word_at(z: Shape, r: u64, place: u64) -> usize
@@ -83,7 +96,7 @@ fn word_at(z: Shape, r: u64, place: u64) -> usize
     requires has_word { has z r place ≡ true }
     ensures { result ≡ word_at z r place }
 {
-    let kind = r % 2;
+    let kind = Kind::of(r);
     let base = at_cells(z, kind);
     let width = width_of(z, kind);
     (base + (r / 2 - 1) * width + place) as usize
@@ -136,18 +149,20 @@ pub fn set_slot_word(a: &mut [u64], z: Shape, s: u64, place: u64, v: u64)
 }
 
 // A word of the header that there is one of for each kind.
-pub fn kind_word(a: &[u64], z: Shape, base: u64, kind: u64) -> u64
+#[tactic(auto, using(crate::proofs::StoreLaws::kind_in, crate::proofs::KindLaws::kind_low))]
+pub fn kind_word(a: &[u64], z: Shape, base: u64, kind: Kind) -> u64
     requires lent { Lent z a.now }
-    requires in_header { (base ≤ 10) × (kind < 2) }
-    ensures { result ≡ by_kind a.now base kind }
+    requires in_header { base ≤ 10 }
+    ensures { result ≡ by_kind a.now base (number_of_kind kind) }
 {
-    a[(base + kind) as usize]
+    a[(base + kind.number()) as usize]
 }
 
-pub fn set_kind_word(a: &mut [u64], z: Shape, base: u64, kind: u64, v: u64)
+#[tactic(auto, using(crate::proofs::KindLaws::kind_low))]
+pub fn set_kind_word(a: &mut [u64], z: Shape, base: u64, kind: Kind, v: u64)
     requires lent { Lent z a.old }
-    requires in_header { (base ≤ 10) × (kind < 2) }
-    ensures { a.new ≡ set a.old (base + kind) v }
+    requires in_header { base ≤ 10 }
+    ensures { a.new ≡ set a.old (base + number_of_kind kind) v }
 {
-    a[(base + kind) as usize] = v;
+    a[(base + kind.number()) as usize] = v;
 }

@@ -3,26 +3,26 @@
 use shown::{answer, listed, steps};
 use std::io;
 
-fn let_go(rt: &impl Print, a: &mut [u64], label: &[u8], edition: u64) -> io::Result<()> {
-    print::say(rt, label)?;
+fn let_go(rt: &impl Print, a: &mut [u64], edition: u64) -> io::Result<()> {
     answer::say_dropped(rt, shelf::drop(a, edition))?;
-    answer::say_use(rt, b"; in use", a)?;
-    print::say(rt, b"\n")?;
+    answer::say_use(rt, "; in use", a)?;
+    println!(rt;)?;
     listed::first(rt, a, 6)
 }
 
 // The arena has the 21 branch cells, 5 entry cells and 6 slots that are needed: 459 words.
 pub fn show(rt: &impl Print) -> io::Result<()> {
-    print::say(rt, b"K1 to K5, let go one by one (degree 16)\n")?;
+    println!(rt; "K1 to K5, let go one by one (degree 16)")?;
     let mut a = [0u64; 459];
     let _ = shelf::format(&mut a, 16, 21, 5, 6);
     steps::before(&mut a, 6);
-    answer::say_use(rt, b"  K1 to K5 held: in use", &a)?;
-    print::say(rt, b"\n")?;
-    let_go(rt, &mut a, b"  the empty edition:", 0)?;
-    let_go(rt, &mut a, b"  K1:", 1)?;
-    let_go(rt, &mut a, b"  K2:", 2)?;
-    let_go(rt, &mut a, b"  K3:", 3)?;
-    let_go(rt, &mut a, b"  K4:", 4)?;
-    let_go(rt, &mut a, b"  K5:", 5)
+    answer::say_use(rt, "  K1 to K5 held: in use", &a)?;
+    println!(rt;)?;
+    print!(rt; "  the empty edition:")?;
+    let_go(rt, &mut a, 0)?;
+    for edition in 1..6 {
+        print!(rt; "  K{edition}:")?;
+        let_go(rt, &mut a, edition)?;
+    }
+    Ok(())
 }

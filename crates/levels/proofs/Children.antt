@@ -1,9 +1,5 @@
 -- The children of a branch: how many entries they have, and that their segments ascend from a number on.
-use Prim.Native.Nat.{ℕ, suc, ◌+◌, ◌≤◌}
-use mathlib.Core.Path.{◌≡◌, refl, ap}
-use mathlib.Core.List.{[], List, ◌∷◌}
-use native.Mathlib.Omega.{arith}
-use lib.ListN.{length, length-append}
+use Rattle.std.proofs.Common.{◌≡◌, ℕ, suc, ◌+◌, ◌≤◌, List, [], ◌∷◌, length, refl, ap, arith, length-append}
 use Rattle.trie.specs.Trie.{Node, Kids, none, kid, Item, listing_chain, listing_node, listing_kids}
 use Rattle.trie.specs.Canon.{Above, Asc}
 

@@ -1,11 +1,6 @@
 -- A row whose children are all read passes, where the branch's bitmap is that of its children and it has two entries or stands at
 -- the root.
-use Prim.Native.Nat.{ℕ, ◌<◌}
-use mathlib.Core.Path.{◌≡◌}
-use mathlib.Core.Bool.{cond}
-use mathlib.Core.Logic.{◌⊎◌, inl, inr}
-use borrow.Author.Tests.{eq-eqb, ne_eqb, lt-ltb}
-use lib.Dec.{eqb, ltb}
+use Rattle.std.proofs.Common.{◌≡◌, ℕ, ◌<◌, cond, eqb, ltb, ◌⊎◌, inl, inr, lt-ltb, eq-eqb, ne_eqb}
 use Rattle.cases.proofs.Cases.{eq?}
 use Rattle.layout.specs.Columns.{State}
 use Rattle.levels.specs.Levels.{Fault, Under, closed}

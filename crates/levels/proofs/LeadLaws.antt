@@ -1,19 +1,13 @@
 -- What a node that is seen is made of: an entry in use, or a branch in use that stands at its depth and whose row passes, child
 -- by child. So its leftmost entry is in use, and a branch has no more entries than the arena.
-use Prim.Native.Nat.{ℕ, zero, suc, ◌+◌, ◌-◌, ◌^◌, ◌≤◌, ◌<◌}
-use mathlib.Core.Path.{◌≡◌, refl, sym, ap, ◌∙◌}
-use mathlib.Core.Bool.{Bool, true, false, cond}
-use mathlib.Core.Logic.{◌⊎◌, inl, inr, ⊎_elim}
-use native.Mathlib.Omega.{arith}
-use borrow.Author.Tests.{eqb-true, eqb-false, ltb-true, leb-true}
-use lib.Dec.{eqb, ltb}
+use Rattle.std.proofs.Common.{◌≡◌, ℕ, zero, suc, ◌+◌, ◌-◌, ◌^◌, ◌<◌, ◌≤◌, Bool, true, false, cond, eqb, ltb, ◌⊎◌, Some, None, Option, sym, refl, ap, ◌∙◌, inl, inr, ⊎_elim, arith, ltb-true, eqb-true, leb-true}
+use borrow.Author.Tests.{eqb-false}
 use Rattle.cases.proofs.Cases.{split, both}
 use Rattle.segments.specs.Segments.{segment}
 use Rattle.layout.specs.declared.Shape.{Shape}
 use Rattle.layout.specs.Columns.{State}
 use Rattle.audits.specs.Audits.{none_from, is_live}
 use Rattle.audits.proofs.LiveLaws.{live_cell}
-use Rattle.std.proofs.Common.{Option, Some, None}
 use Rattle.levels.specs.declared.Seen.{Seen}
 use Rattle.levels.specs.Levels.{Fault, Under, on_seen, is_seen, seen_entry, see_by, same_prefix, fits, closed, row_from, branch_by, see_from}
 

@@ -1,11 +1,6 @@
 -- What the test of one slot says where it passes: the slot is free, or it is held and its root is none or is seen with the size
 -- that the slot says.
-use Prim.Native.Nat.{ℕ}
-use mathlib.Core.Path.{◌≡◌}
-use mathlib.Core.Bool.{true, false, cond}
-use mathlib.Core.Logic.{◌⊎◌, inl, inr, ⊎_elim}
-use borrow.Author.Tests.{eq-eqb, ne_eqb, eqb-true}
-use lib.Dec.{eqb}
+use Rattle.std.proofs.Common.{◌≡◌, ℕ, true, false, cond, eqb, ◌⊎◌, inl, inr, ⊎_elim, eq-eqb, ne_eqb, eqb-true}
 use Rattle.cases.proofs.Cases.{both, eq?}
 use Rattle.layout.specs.declared.Shape.{Shape}
 use Rattle.layout.specs.Columns.{State}

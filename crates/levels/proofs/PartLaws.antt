@@ -1,14 +1,9 @@
 -- What the parts of a node show if they pass: an entry its chain, which stands where a hash is exhausted or is a single, and a row
 -- of a branch the nodes that its children show, whose paths go on from the branch's own.
-use Prim.Native.Nat.{ℕ, zero, suc, ◌+◌, ◌^◌, ◌<◌}
-use mathlib.Core.Path.{◌≡◌, sym, ap, subst, ◌∙◌}
-use mathlib.Core.Bool.{true}
-use mathlib.Core.List.{List, [], ◌∷◌}
-use mathlib.Core.Logic.{◌⊎◌, inl, inr, ⊎_elim}
-use native.Mathlib.Omega.{arith}
-use lib.ListN.{length}
+use Rattle.std.proofs.Common.{◌≡◌, ℕ, zero, suc, ◌+◌, ◌^◌, ◌<◌, true, ◌⊎◌, List, [], ◌∷◌, length, Option, sym, ap, ◌∙◌, subst, inl, inr, ⊎_elim, arith}
 use Rattle.segments.specs.Segments.{segment}
-use Rattle.trie.specs.Entry.{Entry, Word64}
+use Rattle.trie.specs.declared.Entry.{Entry}
+use Rattle.trie.specs.Entry.{Word64}
 use Rattle.trie.specs.Trie.{Kids, none, kid, leaf, Item, listing_node, listing_kids}
 use Rattle.trie.specs.Canon.{AllKids, Busy, AllItems, Distinct, NonEmpty, In, Canon, Under as Goes}
 use Rattle.layout.specs.declared.Shape.{Shape}
@@ -16,7 +11,6 @@ use Rattle.layout.specs.Columns.{State}
 use Rattle.arena.specs.Shows.{bitmap, behind, ShowsChain, Shows, ShowsRow}
 use Rattle.audits.specs.Audits.{is_live}
 use Rattle.audits.proofs.Shown.{ChainAt}
-use Rattle.std.proofs.Common.{Option}
 use Rattle.levels.specs.declared.Seen.{Seen}
 use Rattle.levels.specs.Levels.{Under, closed}
 use Rattle.levels.proofs.Paths.{path_of, asked, SeenAs}

@@ -1,10 +1,6 @@
 -- The path of a hash through the first t depths, the last segment first; what is asked of the children of a branch at a depth; and
 -- what a node is if the tests of this crate see it.
-use Prim.Native.Nat.{ℕ, zero, suc}
-use mathlib.Core.Path.{◌≡◌}
-use mathlib.Core.Bool.{true}
-use mathlib.Core.List.{[], List, ◌∷◌}
-use lib.ListN.{length}
+use Rattle.std.proofs.Common.{◌≡◌, ℕ, zero, suc, true, List, [], ◌∷◌, length}
 use Rattle.segments.specs.Segments.{segment}
 use Rattle.trie.specs.Entry.{Word64}
 use Rattle.trie.specs.Trie.{Node, Kids, listing_node}

@@ -1,11 +1,6 @@
 -- Hashes that leave the same remainder have the same segments, so the paths through the depths that the remainder covers are
 -- one; a path is as long as its depths, and its hash goes along it.
-use Prim.Native.Nat.{ℕ, zero, suc, ◌+◌, ◌*◌, ◌%◌, ◌/◌, ◌^◌}
-use mathlib.Core.Path.{◌≡◌, refl, sym, ap, ◌∙◌}
-use mathlib.Core.Bool.{true}
-use native.Mathlib.Omega.{arith}
-use borrow.Author.Tests.{eqb-true}
-use lib.ListN.{length}
+use Rattle.std.proofs.Common.{◌≡◌, ℕ, zero, suc, ◌+◌, ◌*◌, ◌/◌, ◌%◌, ◌^◌, true, length, sym, refl, ap, ◌∙◌, arith, eqb-true}
 use lib.Pow.{field, mod-mod-pow}
 use Rattle.segments.specs.Segments.{segment}
 use Rattle.trie.specs.Canon.{Under}

@@ -1,15 +1,7 @@
 -- What a reference shows if the tests of this crate see it: a node of a trie that the rules can build, with as many entries as
 -- are seen. An entry shows its chain, which stands where a hash is exhausted or is a single; a branch shows the nodes that its
 -- children show, whose paths go on from its own.
-use Prim.Native.Nat.{ℕ, zero, suc, ◌+◌, ◌^◌, ◌≤◌, ◌<◌}
-use mathlib.Core.Path.{◌≡◌, sym, ap, subst, ◌∙◌}
-use mathlib.Core.Bool.{true}
-use mathlib.Core.List.{[], ◌∷◌}
-use mathlib.Core.Logic.{◌⊎◌, inl, inr, ⊎_elim}
-use native.Mathlib.Omega.{arith}
-use borrow.Author.Tests.{eqb-true}
-use lib.Dec.{eqb}
-use lib.ListN.{length}
+use Rattle.std.proofs.Common.{◌≡◌, ℕ, zero, suc, ◌+◌, ◌^◌, ◌<◌, ◌≤◌, true, eqb, ◌⊎◌, [], ◌∷◌, length, Option, sym, ap, ◌∙◌, subst, inl, inr, ⊎_elim, arith, eqb-true}
 use Rattle.cases.proofs.Cases.{eq?, lt?}
 use Rattle.trie.specs.Trie.{Node, leaf, branch, Kids, none, kid, listing_chain, listing_node, listing_kids}
 use Rattle.trie.specs.Canon.{Asc, Some, Big, Busy, Canon}
@@ -22,7 +14,6 @@ use Rattle.audits.specs.Audits.{none_from, is_live}
 use Rattle.audits.proofs.AllLaws.{all_says}
 use Rattle.audits.proofs.Shown.{ChainAt}
 use Rattle.audits.proofs.LiveLaws.{live_cell}
-use Rattle.std.proofs.Common.{Option}
 use Rattle.levels.specs.declared.Seen.{Seen}
 use Rattle.levels.specs.Levels.{Under, seen_entry, row_from, see_from}
 use Rattle.levels.proofs.Paths.{asked, SeenAs}

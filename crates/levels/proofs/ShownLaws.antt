@@ -1,15 +1,7 @@
 -- A reference that shows a trie which the rules can build passes the tests of this crate: what is seen of it is its leftmost
 -- entry and how many entries it has. A child's leftmost entry has the segments of the child's path, so the segments read from
 -- a row are those of its children: they ascend, and the bitmap has a bit for each and no others.
-use Prim.Native.Nat.{ℕ, zero, suc, ◌+◌, ◌-◌, ◌^◌, ◌≤◌, ◌<◌}
-use mathlib.Core.Path.{◌≡◌, refl, sym, ap, ◌∙◌}
-use mathlib.Core.Bool.{true, false}
-use mathlib.Core.Logic.{◌⊎◌, inl, inr, ⊎_elim}
-use mathlib.Core.List.{[], List, ◌∷◌}
-use native.Mathlib.Omega.{arith}
-use borrow.Author.Tests.{eq-eqb, ne_eqb, lt-ltb, le-leb}
-use lib.Dec.{eqb}
-use lib.ListN.{length}
+use Rattle.std.proofs.Common.{◌≡◌, ℕ, zero, suc, ◌+◌, ◌-◌, ◌^◌, ◌<◌, ◌≤◌, true, false, eqb, ◌⊎◌, List, [], ◌∷◌, length, Option, sym, refl, ap, ◌∙◌, inl, inr, ⊎_elim, arith, lt-ltb, eq-eqb, ne_eqb, le-leb}
 use Rattle.cases.proofs.Cases.{eq?}
 use Rattle.segments.specs.Segments.{segment}
 use Rattle.layout.specs.declared.Shape.{Shape}
@@ -27,7 +19,6 @@ use Rattle.arena.proofs.Few.{columns_live}
 use Rattle.arena.proofs.Frames.{shown_some}
 use Rattle.audits.specs.Audits.{is_live}
 use Rattle.audits.proofs.AllLaws.{all_is}
-use Rattle.std.proofs.Common.{Option}
 use Rattle.levels.specs.declared.Seen.{Seen}
 use Rattle.levels.specs.Levels.{Fault, Under, on_seen, seen_entry, see_by, fits, row_from, branch_by, see_from}
 use Rattle.levels.proofs.Paths.{asked}

@@ -1,11 +1,7 @@
 -- What the tests of levels and slots say where they pass: a branch in use is seen at its own depth, and a slot is free, or it is
 -- held and its root is none or is seen.
-use Prim.Native.Nat.{ℕ, zero, suc, ◌<◌}
-use mathlib.Core.Path.{◌≡◌, refl, subst}
-use mathlib.Core.Bool.{true}
-use mathlib.Core.Logic.{◌⊎◌, ⊎_elim}
-use native.Mathlib.Omega.{arith}
-use borrow.Author.Tests.{eq-eqb, ne_eqb}
+use Rattle.std.proofs.Common.{◌≡◌, ℕ, zero, suc, ◌<◌, true, ◌⊎◌, Some, None, Option, refl, subst, ⊎_elim, arith, eq-eqb, ne_eqb}
+use Rattle.std.proofs.lemmas.Bool.{false≢true}
 use Rattle.cases.proofs.Cases.{both, eq?}
 use Rattle.layout.specs.declared.Shape.{Shape}
 use Rattle.layout.specs.Layout.{reference, kind_of, cell_of}
@@ -14,9 +10,8 @@ use Rattle.layout.proofs.OffsetLaws.{cells_branch}
 use Rattle.arena.specs.Sound.{FreeSlot}
 use Rattle.arena.proofs.RefLaws.{ref_cell}
 use Rattle.audits.specs.Audits.{branches_right}
-use Rattle.audits.proofs.AllLaws.{false-true, all_below}
+use Rattle.audits.proofs.AllLaws.{all_below}
 use Rattle.audits.proofs.CellLaws.{branch_deep}
-use Rattle.std.proofs.Common.{Option, Some, None}
 use Rattle.levels.specs.declared.Seen.{Seen}
 use Rattle.levels.specs.Levels.{Under, on_seen, is_seen, see_at, is_at, branch_seen, level_seen, levels_seen, slot_right, slots_right}
 use Rattle.levels.proofs.OneSlot.{slot_says}
@@ -24,7 +19,7 @@ pub use Rattle.levels.proofs.OneSlot.{RootIs, RootSeen}
 
 seen_some : (s : Option Seen) → is_seen s ≡ true → (l : ℕ) × (n : ℕ) × (s ≡ Under l n)
 unfolding on_seen
-seen_some None e = absurd (false-true e)
+seen_some None e = absurd (false≢true e)
 seen_some (Some v) e = (v.lead, v.size, refl)
 
 module _ (z : Shape) (σ : State) where

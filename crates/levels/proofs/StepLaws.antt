@@ -1,16 +1,8 @@
 -- The steps of a row, of a branch and of a level.
-use Prim.Native.Nat.{ℕ, suc, ◌+◌, ◌-◌, ◌*◌, ◌/◌, ◌%◌, ◌^◌, ◌≤◌, ◌<◌}
-use mathlib.Core.Path.{◌≡◌, refl, sym, ap, ap₂, ◌∙◌, subst}
-use mathlib.Core.Bool.{Bool, true, false, cond}
-use mathlib.Core.List.{List}
-use mathlib.Core.Logic.{⊎_elim}
-use native.Mathlib.Omega.{arith}
+use Rattle.std.proofs.Common.{◌≡◌, ℕ, suc, ◌+◌, ◌-◌, ◌*◌, ◌/◌, ◌%◌, ◌^◌, ◌<◌, ◌≤◌, Bool, true, false, cond, eqb, List, length, get_or, set, Option, sym, refl, ap, ◌∙◌, subst, ap₂, ⊎_elim, arith, length-set, get_or-set_other, get_or-set_same, pow_mono, eq-eqb, ne_eqb, eqb-true}
+use Rattle.std.proofs.lemmas.Bool.{false≢true}
 use native.Mathlib.Nat.{pow-succ'}
-use lib.Pow.{pow_mono}
-use borrow.Author.Tests.{eq-eqb, ne_eqb, eqb-true, eqb-false}
-use lib.Dec.{eqb}
-use lib.ListN.{length, get_or, set, length-set}
-use lib.Seq.{get_or-set_same, get_or-set_other}
+use borrow.Author.Tests.{eqb-false}
 use Rattle.cases.proofs.Cases.{split, eq?, Tri, is_less, is_equal, is_more, tri}
 use Rattle.segments.specs.Segments.{segment}
 use Rattle.layout.specs.declared.Shape.{Shape}
@@ -23,14 +15,13 @@ use Rattle.arena.proofs.RefLaws.{names_of}
 use Rattle.lookup.specs.Lookup.{names_kind}
 use Rattle.lookup.proofs.FindLaws.{kind_says, kind_is, kind_other, entry_word}
 use Rattle.audits.specs.Audits.{all_from, none_from, is_live}
-use Rattle.audits.proofs.AllLaws.{false-true, all_on, all_stops, all_over}
+use Rattle.audits.proofs.AllLaws.{all_on, all_stops, all_over}
 use Rattle.audits.proofs.LiveLaws.{live_says, live_is}
-use Rattle.std.proofs.Common.{Option}
 use Rattle.levels.specs.declared.Seen.{Seen}
 use Rattle.levels.specs.Levels.{Fault, Under, on_seen, fits, closed, ended, row_from, branch_by, see_by, see_from, see_at, is_at, branch_seen, level_seen, levels_seen, kept, kept_as, Known, KeptAt, OnlyAt, OnlyBranches}
 use Rattle.lookup.proofs.Meaning.{segment_low}
 use Rattle.levels.proofs.LeadLaws.{seen_lead, seen_few, fits_says}
-use Rattle.levels.proofs.CaseLaws.{shift_one}
+use Rattle.std.proofs.lemmas.Nat.{one_shl}
 
 not_live : (z : Shape) (σ : State) (k r : ℕ) → (kind_of r ≡ k → ⊥) → is_live z σ k r ≡ false
 unfolding is_live
@@ -112,7 +103,7 @@ next_bit bits low g b l small = (
 )
 
 pub bits_fit : (bits low g : ℕ) → bits < 2 ^ low → low ≤ g → g < 64 → bits + 1 * 2 ^ g % 2 ^ 64 < 2 ^ 64
-bits_fit bits low g b l small = omega (arith, shift_one g small, next_bit bits low g b l small)
+bits_fit bits low g b l small = omega (arith, one_shl g 64 small, next_bit bits low g b l small)
 
 -- THE CHILD AT HAND, by what was read of it: its leftmost entry, how many entries are below it, and its segment g
 pub record Met (z : Shape) (a : List ℕ) (t r lead k low size entry below g : ℕ) : Type 0 where
@@ -154,7 +145,7 @@ child_Met z a w t r lead k low size entry below g first hash seen n p q e d =
 pub bits_below : (bits low g : ℕ) → bits < 2 ^ low → low ≤ g → g < 64 → bits + 1 * 2 ^ g % 2 ^ 64 < 2 ^ (g + 1)
 bits_below bits low g b l small =
     let e : 2 ^ (g + 1) ≡ 2 ^ suc g = ap (λ (x : ℕ). 2 ^ x) (omega arith) in
-    omega (arith, e, shift_one g small, (next_bit bits low g b l small).0)
+    omega (arith, e, one_shl g 64 small, (next_bit bits low g b l small).0)
 
 -- what is known, at a depth that is the same
 pub known_at : (z : Shape) (a : List ℕ) (t u : ℕ) (w : List ℕ) → u ≡ t → Known z a t w → Known z a u w
@@ -166,7 +157,7 @@ pub row_shift : (look : ℕ → Option Seen) (z : Shape) (σ : State) (t r l k l
     → row_from look z σ t r l (z.degree - suc k) (suc k) (suc low) (bits + 2 ^ low) size
     ≡ row_from look z σ t r l (z.degree - k') k' low' bits' size
 row_shift look z σ t r l k low bits size k' low' bits' a b small c = λ i.
-    row_from look z σ t r l (z.degree - sym a i) (sym a i) (sym b i) (sym (c ∙ ap (λ (x : ℕ). bits + x) (shift_one low small)) i) size
+    row_from look z σ t r l (z.degree - sym a i) (sym a i) (sym b i) (sym (c ∙ ap (λ (x : ℕ). bits + x) (one_shl low 64 small)) i) size
 
 -- A BRANCH, by its first child
 module _ (look : ℕ → Option Seen) (z : Shape) (σ : State) (t r : ℕ) where
@@ -189,7 +180,7 @@ module _ (z : Shape) (σ : State) (t r : ℕ) where
   unfolding is_at
   at_says e =
       split (eqb (σ.count r) 0)
-      (λ y. absurd (false-true (rw y at e)))
+      (λ y. absurd (false≢true (rw y at e)))
       (λ f. (omega (arith, eqb-false (σ.count r) 0 f), eqb-true (σ.mark r) t (rw f at e)))
 
   pub at_is : 0 < σ.count r → σ.mark r ≡ t → is_at σ t r ≡ true
@@ -247,7 +238,7 @@ module _ (z : Shape) (a : List ℕ) (t i r : ℕ) (w : List ℕ) (q : r ≡ refe
   pub Sees-off : is_at (columns z a) t r ≡ false → Sees z a t i w true w
   Sees-off e = (
     sym (not_at z (columns z a) t (reference 0 i) (at_ref false e)),
-    (λ y k. absurd (false-true (sym (at_ref false e) ∙ k)), same_words),
+    (λ y k. absurd (false≢true (sym (at_ref false e) ∙ k)), same_words),
   )
 
   module _ (l : i < z.branches) (d : t < z.depths) (e : is_at (columns z a) t r ≡ true) (s : Option Seen)
@@ -259,7 +250,7 @@ module _ (z : Shape) (a : List ℕ) (t i r : ℕ) (w : List ℕ) (q : r ≡ refe
     Sees-fault n =
         let g : see_at z (columns z a) t (reference 0 i) ≡ Fault
         = ap (see_at z (columns z a) t) (sym q) ∙ sym it_is ∙ n in
-        (sym (at_Fault z (columns z a) t (reference 0 i) (at_ref true e) g), (λ y. absurd (false-true y), same_words))
+        (sym (at_Fault z (columns z a) t (reference 0 i) (at_ref true e) g), (λ y. absurd (false≢true y), same_words))
 
     module _ (m n : ℕ) (p : s ≡ Under m n) where
       it_shows : see_at z (columns z a) t r ≡ Under m n
@@ -284,7 +275,7 @@ module _ (z : Shape) (a : List ℕ) (t i r : ℕ) (w : List ℕ) (q : r ≡ refe
               λ y at. there ∙ kept_is w i m n long (keep_fits k).1 ∙ ap (λ (x : ℕ). kept (set w i x) (reference 0 i)) (sym h),
               record {
                 same_length = length-set w i v;
-                not_there = λ no. absurd (false-true (sym no ∙ at_ref true e));
+                not_there = λ no. absurd (false≢true (sym no ∙ at_ref true e));
                 others = λ j ne. get_or-set_other w i j v 0 ne;
               },
             ),

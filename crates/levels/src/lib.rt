@@ -14,7 +14,7 @@ ghost use Rattle.lookup.specs.Lookup.{names_kind};
 ghost use Rattle.levels.specs.Levels.{seen_entry, fits, closed, ended, row_from, branch_by, see_at, is_at, branch_seen, level_seen, levels_seen, root_right, slot_right, slots_right, kept_as, Known, KeptAt, OnlyAt, OnlyBranches};
 
 use audits::branches;
-use layout::{Shape, words};
+use layout::{Kind, Shape, words};
 use lookup::links;
 
 // What stands below a reference: the reference of the leftmost entry, and how many entries there are.
@@ -24,6 +24,7 @@ pub struct Seen {
     pub size: u64,
 }
 
+#[tactic(auto, using(lookup::proofs::FindLaws::has_part), unfolding(crate::specs::Levels::seen_entry))]
 fn see_entry(a: &[u64], z: Shape, depth: u64, r: u64) -> Option<Seen>
     requires lent { Lent z a.now }
     requires is_entry { names_kind z 1 r ≡ true }
@@ -39,6 +40,25 @@ fn see_entry(a: &[u64], z: Shape, depth: u64, r: u64) -> Option<Seen>
     None
 }
 
+// A branch in use by what is kept of it, where its depth is its place.
+fn see_kept(a: &[u64], work: &[u64], z: Shape, depth: u64, r: u64) -> Option<Seen>
+    requires lent { Lent z a.now }
+    requires known { Known z a.now depth work.now }
+    requires work_fits { z.branches ≤ length work.now }
+    requires is_branch { names_kind z 0 r ≡ true }
+    requires is_in_use { 0 < (columns z a.now).count r }
+    ensures { result ≡ see_at z (columns z a.now) depth r }
+{
+    if words::word(a, z, r, words::MARK) != depth {
+        return None;
+    }
+    let kept = work[(r / 2 - 1) as usize];
+    Some(Seen {
+        lead: kept / 4294967296,
+        size: kept % 4294967296,
+    })
+}
+
 // A reference at a depth: an entry by its words, a branch by what is kept of it. None where it is at fault.
 fn see(a: &[u64], work: &[u64], z: Shape, depth: u64, r: u64) -> Option<Seen>
     requires lent { Lent z a.now }
@@ -52,20 +72,14 @@ fn see(a: &[u64], work: &[u64], z: Shape, depth: u64, r: u64) -> Option<Seen>
     if words::word(a, z, r, words::COUNT) == 0 {
         return None;
     }
-    if r % 2 == 1 {
-        return see_entry(a, z, depth, r);
+    match Kind::of(r) {
+        Kind::Branch => see_kept(a, work, z, depth, r),
+        Kind::Entry => see_entry(a, z, depth, r),
     }
-    if words::word(a, z, r, words::MARK) != depth {
-        return None;
-    }
-    let kept = work[(r / 2 - 1) as usize];
-    Some(Seen {
-        lead: kept / 4294967296,
-        size: kept % 4294967296,
-    })
 }
 
 // Whether a child may stand behind those before it: see specs/Levels.antt.
+#[tactic(auto, using(std::proofs::lemmas::Nat::one_shl, std::proofs::Common::pow_pos), unfolding(crate::specs::Levels::fits, crate::specs::Levels::same_prefix))]
 fn is_fit(z: Shape, depth: u64, first: u64, low: u64, size: u64, hash: u64, below: u64) -> bool
     requires prefix_fits { depth * z.bits < 64 }
     requires few_bits { z.bits ≤ 6 }
@@ -83,6 +97,7 @@ fn is_fit(z: Shape, depth: u64, first: u64, low: u64, size: u64, hash: u64, belo
 }
 
 // All children of a branch are read.
+#[tactic(auto, using(layout::proofs::ColumnLaws::has_low, lookup::proofs::FindLaws::kind_says, audits::proofs::StepLaws::bitmap_word), unfolding(crate::specs::Levels::closed))]
 fn close(a: &[u64], z: Shape, depth: u64, r: u64, lead: u64, bits: u64, size: u64) -> Option<Seen>
     requires lent { Lent z a.now }
     requires is_branch { names_kind z 0 r ≡ true }
@@ -101,6 +116,7 @@ fn close(a: &[u64], z: Shape, depth: u64, r: u64, lead: u64, bits: u64, size: u6
 }
 
 // The children end at a place: behind it there are none.
+#[tactic(auto, unfolding(crate::specs::Levels::ended))]
 fn end_row(
     a: &[u64],
     z: Shape,
@@ -182,6 +198,7 @@ fn keep(lead: u64, size: u64) -> u64
 }
 
 // Whether a branch is in use at a depth.
+#[tactic(auto, using(layout::proofs::ColumnLaws::has_low, lookup::proofs::FindLaws::kind_says), unfolding(crate::specs::Levels::is_at))]
 fn stands_at(a: &[u64], z: Shape, depth: u64, r: u64) -> bool
     requires lent { Lent z a.now }
     requires is_branch { names_kind z 0 r ≡ true }
@@ -248,6 +265,7 @@ pub fn see_levels(a: &[u64], work: &mut [u64], z: Shape) -> bool
 }
 
 // A held root, with the size that its slot says.
+#[tactic(auto, unfolding(crate::specs::Levels::root_right, crate::specs::Levels::size_is))]
 fn is_root_right(a: &[u64], work: &[u64], z: Shape, root: u64, size: u64) -> bool
     requires lent { Lent z a.now }
     requires known { Known z a.now 0 work.now }
@@ -263,6 +281,7 @@ fn is_root_right(a: &[u64], work: &[u64], z: Shape, root: u64, size: u64) -> boo
     }
 }
 
+#[tactic(auto, unfolding(crate::specs::Levels::slot_right))]
 fn is_slot_right(a: &[u64], work: &[u64], z: Shape, s: u64) -> bool
     requires lent { Lent z a.now }
     requires known { Known z a.now 0 work.now }

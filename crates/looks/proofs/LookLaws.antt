@@ -1,16 +1,11 @@
 -- What get, list and equal answer. Their definitions go by what the words lead to, whatever these are; on an edition that is what
 -- the trie's definitions find, list and compare, and in a sound arena every held slot holds an edition.
-use Prim.Native.Nat.{ℕ, zero, suc, ◌≤◌, ◌<◌}
-use mathlib.Core.Path.{◌≡◌, sym, ap, ◌∙◌, fun_ext}
-use mathlib.Core.Bool.{Bool, true, false}
-use mathlib.Core.List.{List}
-use mathlib.Core.Logic.{⊎_elim}
-use native.Mathlib.Omega.{arith}
-use lib.ListN.{length}
-use borrow.Author.Tests.{eq-eqb, ne_eqb, lt-ltb, le-ltb}
+use Rattle.std.proofs.Common.{◌≡◌, ℕ, zero, suc, ◌<◌, ◌≤◌, Bool, true, false, List, length, Some, None, Option, Result, ok_or, sym, ap, ◌∙◌, ⊎_elim, arith, le-ltb, lt-ltb, eq-eqb, ne_eqb}
+use mathlib.Core.Path.{fun_ext}
 use Rattle.cases.proofs.Cases.{split, eq?}
 use Rattle.segments.specs.Segments.{row, segment}
-use Rattle.trie.specs.Entry.{Entry, Got, Word64}
+use Rattle.trie.specs.declared.Entry.{Entry}
+use Rattle.trie.specs.Entry.{Got, Word64}
 use Rattle.trie.specs.Trie.{Map, size, listing, get, answers, every, equal}
 use Rattle.trie.specs.Names.{forget}
 use Rattle.trie.specs.Built.{Built}
@@ -40,7 +35,6 @@ use Rattle.arena.specs.Holds.{Holds, Shelves}
 use Rattle.looks.specs.Terms.{Gets, Lists, Compares}
 use Rattle.replies.proofs.AnswerLaws.{header_Right}
 use Rattle.arena.proofs.Equivalent.{held_slot_lem}
-use Rattle.std.specs.Prelude.{Result, Option, Some, None, ok_or}
 use Rattle.lookup.specs.Lookup.{looked}
 use Rattle.replies.specs.declared.Refusal.{Refusal}
 
@@ -123,23 +117,6 @@ get_by z a e h k root g held r q =
 pub get_value : (v : Option ℕ) (g : Got) → looked v ≡ g → number_answer (ok_or v Why.Absent) ≡ value_found g
 get_value (Some v) g q = ap value_found q
 get_value None g q = ap value_found q
-
-pub list_by : (z : Shape) (a : List ℕ) (e place : ℕ) (out : List ℕ) (root n : ℕ) (out' : List ℕ) → place < size_word z a e
-    → 3 ≤ length out → root ≡ root_word z a e → n ≡ length (written (met z a root) place (length out))
-    → out' ≡ written_over (written (met z a root) place (length out)) out → leaves (done n 0) out' ≡ held_listed z a e place out
-list_by z a e place out root n out' l room r en eo =
-    (λ i. leaves (done (en i) 0) (eo i))
-    ∙ sym (list_written (size_word z a e) (met z a root) place out l room)
-    ∙ ap (λ (x : ℕ). list_from (size_word z a e) (met z a x) place out) r
-
-pub same_by : (z : Shape) (a : List ℕ) (e f r s : ℕ) (b : Bool) → r ≡ root_word z a e → s ≡ root_word z a f → (r ≡ s → ⊥)
-    → size_word z a e ≡ size_word z a f → b ≡ agree z a r s → b ≡ same_entries z a e f
-same_by z a e f r s b er es ne q eb =
-    eb ∙ (λ i. agree z a (er i) (es i)) ∙ sym (same_size z a e f (λ x. ne (er ∙ x ∙ sym es)) q)
-
-pub equal_by : (z : Shape) (a : List ℕ) (e f : ℕ) (b : Bool) → held_slot z a e ≡ true → held_slot z a f ≡ true
-    → same_entries z a e f ≡ b → equal_in z a e f ≡ truth_value b
-equal_by z a e f b he hf q = equal_held z a e f he hf ∙ ap truth_value q
 
 -- MAPS. The trie's comparison, by the sizes, and of a map with itself
 module _ (seg : ℕ → ℕ → ℕ) (d : ℕ) (m n : Map ℕ) where

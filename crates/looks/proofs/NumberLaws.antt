@@ -1,11 +1,6 @@
 -- Which number size, in use, get, list and equal give: document 01's table holds of the definitions of specs/Calls.antt, on any
 -- words.
-use Prim.Native.Nat.{ℕ, ◌≤◌, ◌<◌}
-use mathlib.Core.Path.{◌≡◌, refl, ap, ◌∙◌}
-use mathlib.Core.List.{List}
-use mathlib.Core.Logic.{◌⊎◌, inl, inr, ◌↔◌, ⊎_elim}
-use native.Mathlib.Omega.{arith}
-use lib.ListN.{length}
+use Rattle.std.proofs.Common.{◌≡◌, ℕ, ◌<◌, ◌≤◌, ◌⊎◌, ◌↔◌, List, length, refl, ap, ◌∙◌, inl, inr, ⊎_elim, arith}
 use Rattle.cases.proofs.Cases.{Tri, is_less, is_equal, is_more, lt?, tri}
 use Rattle.layout.specs.declared.Shape.{Shape}
 use Rattle.layout.specs.Header.{Header}

@@ -1,9 +1,6 @@
 -- What size and in use answer: the words that their definitions name, which on an edition are its map's size and on a sound arena
 -- the cells that are reached.
-use Prim.Native.Nat.{ℕ}
-use mathlib.Core.Path.{◌≡◌, ap, ◌∙◌}
-use mathlib.Core.Bool.{true, false}
-use mathlib.Core.List.{List}
+use Rattle.std.proofs.Common.{◌≡◌, ℕ, true, false, List, Ok, Err, Result, ap, ◌∙◌}
 use Rattle.trie.specs.Trie.{size}
 use Rattle.layout.specs.declared.Shape.{Shape}
 use Rattle.layout.specs.Header.{header_of}
@@ -15,7 +12,6 @@ use Rattle.replies.specs.Answers.{Answer, number_answer, cells_answer, refused, 
 use Rattle.replies.proofs.AnswerLaws.{refused_not_done, done_value, header_Right}
 use Rattle.looks.specs.Calls.{size_word, size_in, size_of, in_use_of}
 use Rattle.looks.specs.Terms.{Sizes, Uses}
-use Rattle.std.specs.Prelude.{Result, Ok, Err}
 use Rattle.replies.specs.declared.Refusal.{Refusal}
 use Rattle.replies.specs.declared.CellCounts.{CellCounts}
 

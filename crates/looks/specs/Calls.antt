@@ -5,7 +5,8 @@ use Rattle.layout.specs.declared.Shape.{Shape}
 use Rattle.layout.specs.Header.{header_of}
 use Rattle.layout.specs.Columns.{word_of_slot, by_kind}
 use Rattle.cells.specs.Slots.{held_slot}
-use Rattle.trie.specs.Entry.{Entry, Got, absent, got}
+use Rattle.trie.specs.declared.Entry.{Entry}
+use Rattle.trie.specs.Entry.{Got, absent, got}
 use Rattle.lookup.specs.Lookup.{get_below}
 use Rattle.iter.specs.Met.{met}
 use Rattle.reads.specs.Listed.{written, written_over}

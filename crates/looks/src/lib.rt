@@ -10,10 +10,11 @@ ghost use Rattle.replies.specs.Outcomes.{leaves};
 ghost use Rattle.looks.specs.Calls.{size_in, in_use_in, get_in, held_listed, list_in, same_entries, equal_in};
 
 use cells::slots;
-use layout::{Shape, words};
+use layout::{Kind, Shape, words};
 use replies::{CellCounts, Refusal};
 
 // How many entries an edition has.
+#[tactic(auto, using(cells::proofs::SlotLaws::held_in), unfolding(crate::specs::Calls::size_in))]
 pub fn size(a: &[u64], z: Shape, edition: u64) -> Result<u64, Refusal>
     requires { Lent z a.now }
     ensures { number_answer result ≡ size_in z a.now edition }
@@ -31,8 +32,8 @@ pub fn in_use(a: &[u64], z: Shape) -> Result<CellCounts, Refusal>
     ensures { cells_answer result ≡ in_use_in a.now }
 {
     Ok(CellCounts {
-        branches: words::kind_word(a, z, words::IN_USE, 0),
-        entries: words::kind_word(a, z, words::IN_USE, 1),
+        branches: words::kind_word(a, z, words::IN_USE, Kind::Branch),
+        entries: words::kind_word(a, z, words::IN_USE, Kind::Entry),
     })
 }
 
@@ -51,6 +52,7 @@ pub fn get(a: &[u64], z: Shape, edition: u64, hash: u64, key: u64) -> Result<u64
 }
 
 // At the end there is nothing to walk for, whatever the room.
+#[tactic(auto, unfolding(crate::specs::Calls::list_from))]
 fn list_held(a: &[u64], z: Shape, edition: u64, place: u64, out: &mut [u64]) -> Result<u64, Refusal>
     requires lent { Lent z a.now }
     requires in_slots { edition < z.slots }
@@ -71,6 +73,7 @@ fn list_held(a: &[u64], z: Shape, edition: u64, place: u64, out: &mut [u64]) -> 
 }
 
 // The entries of an edition from a place on, as many as there is room for.
+#[tactic(auto, using(cells::proofs::SlotLaws::held_in), unfolding(crate::specs::Calls::list_in))]
 pub fn list(a: &[u64], z: Shape, edition: u64, place: u64, out: &mut [u64]) -> Result<u64, Refusal>
     requires { Lent z a.now }
     ensures { leaves (number_answer result) out.new ≡ list_in z a.now edition place out.old }
@@ -83,6 +86,7 @@ pub fn list(a: &[u64], z: Shape, edition: u64, place: u64, out: &mut [u64]) -> R
 }
 
 // Two editions with one root are one trie. Where the sizes agree, one way of looking is enough.
+#[tactic(auto, unfolding(crate::specs::Calls::same_entries))]
 fn is_equal(a: &[u64], z: Shape, first: u64, second: u64) -> bool
     requires lent { Lent z a.now }
     requires in_slots { (first < z.slots) × (second < z.slots) }
@@ -100,6 +104,7 @@ fn is_equal(a: &[u64], z: Shape, first: u64, second: u64) -> bool
 }
 
 // Whether two editions have the same entries.
+#[tactic(auto, using(cells::proofs::SlotLaws::held_in), unfolding(crate::specs::Calls::equal_in))]
 pub fn equal(a: &[u64], z: Shape, first: u64, second: u64) -> Result<bool, Refusal>
     requires { Lent z a.now }
     ensures { truth_answer result ≡ equal_in z a.now first second }

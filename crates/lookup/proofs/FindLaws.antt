@@ -97,6 +97,16 @@ entry_word z a r j e l =
 pub has_part : (z : Shape) (r p : ℕ) → names_kind z 1 r ≡ true → p < 6 → has z r p ≡ true
 has_part z r p e l = let w = kind_says z 1 r e in has_entry z r p w.0 (λ k. omega (arith, w.1)) l
 
+-- the words of an entry cell as the entry that it holds
+pub entry_is : (z : Shape) (a : List ℕ) (r h k v : ℕ) → names_kind z 1 r ≡ true → h ≡ word z a r 3 → k ≡ word z a r 4
+    → v ≡ word z a r 5 → record { hash = h; key = k; value = v } ≡ entry_at (columns z a) r
+entry_is z a r h k v e eh ek ev =
+    rw (
+      eh ∙ sym (entry_word z a r 0 e (omega arith)),
+      ek ∙ sym (entry_word z a r 1 e (omega arith)),
+      ev ∙ sym (entry_word z a r 2 e (omega arith)),
+    )
+
 -- the test of a key: first the hash
 module _ (z : Shape) (a : List ℕ) (r h k : ℕ) (e : names_kind z 1 r ≡ true) where
   key_test : matches h k (entry_at (columns z a) r) ≡ cond (eqb (word z a r 3) h) (eqb (word z a r 4) k) false

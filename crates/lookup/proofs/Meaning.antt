@@ -15,7 +15,8 @@ use Rattle.layout.specs.declared.Shape.{Shape}
 use Rattle.layout.specs.Layout.{kind_of, names, Allowed}
 use Rattle.layout.specs.Columns.{State, columns}
 use Rattle.layout.proofs.SizeLaws.{row_is_Right, small}
-use Rattle.trie.specs.Entry.{Entry, matches, got}
+use Rattle.trie.specs.declared.Entry.{Entry}
+use Rattle.trie.specs.Entry.{matches, got}
 use Rattle.trie.specs.Trie.{Node, leaf, branch, Kids, Item, Map, empty, root, Found, missing, found, child, find, chain, get_node, get}
 use Rattle.trie.specs.Canon.{Some, Canonical}
 use Rattle.trie.proofs.ChainLaws.{find_hit, find_miss}

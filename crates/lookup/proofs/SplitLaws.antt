@@ -12,7 +12,8 @@ use Rattle.layout.specs.declared.Shape.{Shape}
 use Rattle.layout.specs.Layout.{names, Allowed}
 use Rattle.layout.specs.Columns.{State, columns}
 use Rattle.layout.proofs.SizeLaws.{small}
-use Rattle.trie.specs.Entry.{Entry, matches, absent, got}
+use Rattle.trie.specs.declared.Entry.{Entry}
+use Rattle.trie.specs.Entry.{matches, absent, got}
 use Rattle.trie.specs.Trie.{Item, Map, find, get}
 use Rattle.trie.specs.Cells.{ahead}
 use Rattle.trie.specs.Canon.{Canonical}

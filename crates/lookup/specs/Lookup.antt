@@ -3,7 +3,8 @@
 use Rattle.std.specs.Prelude.{ℕ, zero, suc, Bool, false, cond, List, eqb, Option, Some, None, Ok, Err}
 use Rattle.segments.specs.Segments.{segment}
 use Rattle.sparse_array.specs.Places.{Place, place_of}
-use Rattle.trie.specs.Entry.{Entry, matches, Got, absent, got}
+use Rattle.trie.specs.declared.Entry.{Entry}
+use Rattle.trie.specs.Entry.{matches, Got, absent, got}
 use Rattle.layout.specs.declared.Shape.{Shape}
 use Rattle.layout.specs.Layout.{kind_of, names}
 use Rattle.layout.specs.Columns.{State, columns}

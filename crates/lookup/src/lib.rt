@@ -15,6 +15,7 @@ ghost use Rattle.trie.specs.Entry.{matches};
 ghost use Rattle.lookup.specs.Lookup.{names_kind, entry_at, kid_at, path_end, longest, hit_from, get_below, looked};
 
 use layout::{Shape, words};
+use trie::Entry;
 
 // The child of a branch at a segment. On damaged words a bitmap may promise more children than the branch has room for.
 #[tactic(auto, using(crate::proofs::FindLaws::kind_says, crate::proofs::FindLaws::child_by, layout::proofs::ColumnLaws::has_low))]
@@ -46,7 +47,21 @@ pub fn descend(a: &[u64], z: Shape, root: u64, hash: u64) -> u64
     r
 }
 
-// Whether an entry has this hash and this key.
+// The entry that a cell holds.
+#[tactic(auto, using(crate::proofs::FindLaws::has_part, crate::proofs::FindLaws::entry_is))]
+pub fn entry(a: &[u64], z: Shape, r: u64) -> Entry
+    requires lent { Lent z a.now }
+    requires is_entry { names_kind z 1 r ≡ true }
+    ensures { result ≡ entry_at (columns z a.now) r }
+{
+    Entry {
+        hash: words::word(a, z, r, words::HASH),
+        key: words::word(a, z, r, words::KEY),
+        value: words::word(a, z, r, words::VALUE),
+    }
+}
+
+// Whether an entry has this hash and this key: the key is read only where the hash agrees.
 #[tactic(auto, using(crate::proofs::FindLaws::hash_same, crate::proofs::FindLaws::hash_other, crate::proofs::FindLaws::has_part))]
 fn has_key(a: &[u64], z: Shape, r: u64, hash: u64, key: u64) -> bool
     requires lent { Lent z a.now }

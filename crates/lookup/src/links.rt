@@ -1,29 +1,29 @@
 //! What a reference names, and the references that a cell holds, on any words.
 ghost use Rattle.std.specs.Prelude.{◌≡◌};
-ghost use Rattle.layout.specs.Layout.{Lent};
+ghost use Rattle.layout.specs.Layout.{number_of_kind, Lent};
 ghost use Rattle.layout.specs.Columns.{columns, refs};
 ghost use Rattle.lookup.specs.Lookup.{names_kind};
 
-use layout::{Shape, words};
+use layout::{Kind, Shape, words};
 
-// Whether a reference names a cell of this kind: 0 is a branch, 1 an entry.
+// Whether a reference names a cell of this kind.
 #[tactic(auto, unfolding(crate::specs::Lookup::names_kind))]
-fn is_kind(z: Shape, kind: u64, r: u64) -> bool
-    ensures { result ≡ names_kind z kind r }
+pub fn is_kind(z: Shape, kind: Kind, r: u64) -> bool
+    ensures { result ≡ names_kind z (number_of_kind kind) r }
 {
-    r % 2 == kind && words::is_cell(z, r)
+    Kind::of(r) == kind && words::is_cell(z, r)
 }
 
 pub fn is_branch(z: Shape, r: u64) -> bool
     ensures { result ≡ names_kind z 0 r }
 {
-    is_kind(z, 0, r)
+    is_kind(z, Kind::Branch, r)
 }
 
 pub fn is_entry(z: Shape, r: u64) -> bool
     ensures { result ≡ names_kind z 1 r }
 {
-    is_kind(z, 1, r)
+    is_kind(z, Kind::Entry, r)
 }
 
 // How many references the cell holds: a branch as many as the degree, an entry its next.
@@ -34,7 +34,10 @@ fn kids(z: Shape, r: u64) -> u64
     if !words::is_cell(z, r) {
         return 0;
     }
-    if r % 2 == 0 { z.degree } else { 1 }
+    match Kind::of(r) {
+        Kind::Branch => z.degree,
+        Kind::Entry => 1,
+    }
 }
 
 // Reference `i` of the cell that `r` names: a branch's child, or an entry's next. 0 where there is none.
@@ -44,8 +47,7 @@ pub fn kid(a: &[u64], z: Shape, r: u64, i: u64) -> u64
     ensures { result ≡ (columns z a.now).kid r i }
 {
     if i < kids(z, r) {
-        // An entry's next stands one place before where a branch's children begin.
-        words::word(a, z, r, words::CHILDREN - r % 2 + i)
+        words::word(a, z, r, words::first_kid(r) + i)
     } else {
         0
     }

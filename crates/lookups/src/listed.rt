@@ -16,8 +16,7 @@ fn word(words: &[u64], i: usize) -> u64 {
 }
 
 fn whole(rt: &impl Print, a: &[u64], edition: u64) -> io::Result<()> {
-    print::decimal(rt, b"  edition ", edition)?;
-    print::say(rt, b": answers")?;
+    print!(rt; "  edition {edition}: answers")?;
     listed::whole(rt, a, edition)
 }
 
@@ -44,10 +43,10 @@ fn from_place(rt: &impl Print, a: &[u64], all: &[u64], place: usize, room: usize
 {
     let mut out = [MARK; FULL];
     let answer = shelf::list(a, 0, place as u64, &mut out[..room]);
-    let n = answer::entries(answer);
+    let n = answer.unwrap_or(0);
     answer::say_counted(rt, answer)?;
     if !is_part(all, place, n, &out) {
-        print::say(rt, b" WRONG")?;
+        print!(rt; " WRONG")?;
     }
     Ok(())
 }
@@ -55,20 +54,19 @@ fn from_place(rt: &impl Print, a: &[u64], all: &[u64], place: usize, room: usize
 fn every_room(rt: &impl Print, a: &[u64], all: &[u64], place: usize) -> io::Result<()>
     requires { place ≤ 6 }
 {
-    print::decimal(rt, b"  from ", place as u64)?;
-    print::say(rt, b":")?;
+    print!(rt; "  from {place}:")?;
     for room in 0..=FULL {
         from_place(rt, a, all, place, room)?;
     }
-    print::say(rt, b"\n")
+    println!(rt;)
 }
 
 pub fn show(rt: &impl Print, a: &[u64]) -> io::Result<()> {
-    print::say(rt, b"Listed whole\n")?;
+    println!(rt; "Listed whole")?;
     for edition in 0..=stored::EDITIONS {
         whole(rt, a, edition)?;
     }
-    print::say(rt, b"K5 from each place, with room for 0 to 17 words\n")?;
+    println!(rt; "K5 from each place, with room for 0 to 17 words")?;
     let mut all = [MARK; FULL];
     let _ = shelf::list(a, 0, 0, &mut all);
     for place in 0..=6 {

@@ -4,7 +4,6 @@
 
 #![tactic(auto)]
 
-mod answer;
 mod compared;
 mod damaged;
 mod found;

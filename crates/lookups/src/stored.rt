@@ -12,7 +12,8 @@
 //! 8. no edition
 ghost use Rattle.std.specs.Prelude.{◌≤◌};
 
-use shown::answer;
+use shown::entries::Entry;
+use shown::{answer, entries};
 use std::io;
 
 pub const WORDS: usize = 815;
@@ -48,17 +49,8 @@ fn branch(
     lay(a, at, 19, &[count, depth, bitmap, first, second, third])
 }
 
-fn entry(
-    a: &mut [u64],
-    at: usize,
-    count: u64,
-    length: u64,
-    next: u64,
-    hash: u64,
-    key: u64,
-    value: u64,
-) -> usize {
-    lay(a, at, 6, &[count, length, next, hash, key, value])
+fn entry(a: &mut [u64], at: usize, count: u64, length: u64, next: u64, e: Entry) -> usize {
+    lay(a, at, 6, &[count, length, next, e.hash, e.key, e.value])
 }
 
 // The branches at depths 1 to 15 on the path of D and E, each the only one to name the next; `first` is the reference of
@@ -110,19 +102,19 @@ fn other_branches(a: &mut [u64], from: usize) -> usize {
 
 // A to E, as the shelf table has them.
 fn first_entries(a: &mut [u64], from: usize) -> usize {
-    let mut at = entry(a, from, 2, 1, 0, 0x26, 1, 10);
-    at = entry(a, at, 2, 1, 0, 0x16, 2, 20);
-    at = entry(a, at, 3, 1, 0, 0x42, 3, 30);
-    at = entry(a, at, 2, 1, 0, 0x7000000000000008, 4, 40);
-    entry(a, at, 1, 2, 9, 0x7000000000000008, 5, 50)
+    let mut at = entry(a, from, 2, 1, 0, entries::of_step(1));
+    at = entry(a, at, 2, 1, 0, entries::of_step(2));
+    at = entry(a, at, 3, 1, 0, entries::of_step(3));
+    at = entry(a, at, 2, 1, 0, entries::of_step(4));
+    entry(a, at, 1, 2, 9, entries::of_step(5))
 }
 
 // E and D of edition 3, A of edition 5, and the free cell.
 fn other_entries(a: &mut [u64], from: usize) {
-    let mut at = entry(a, from, 1, 1, 0, 0x7000000000000008, 5, 50);
-    at = entry(a, at, 1, 2, 13, 0x7000000000000008, 4, 40);
-    at = entry(a, at, 1, 1, 0, 0x26, 1, 11);
-    entry(a, at, 0, 0, 0, 0, 0, 0);
+    let mut at = entry(a, from, 1, 1, 0, entries::of_step(5));
+    at = entry(a, at, 1, 2, 13, entries::of_step(4));
+    at = entry(a, at, 1, 1, 0, entries::an_entry(0x26, 1, 11));
+    entry(a, at, 0, 0, 0, entries::an_entry(0, 0, 0));
 }
 
 pub fn lay_out(a: &mut [u64]) {
@@ -136,6 +128,6 @@ pub fn lay_out(a: &mut [u64]) {
 }
 
 pub fn show(rt: &impl Print, a: &[u64]) -> io::Result<()> {
-    answer::say_use(rt, b"Cells in use", a)?;
-    print::say(rt, b"\n")
+    answer::say_use(rt, "Cells in use", a)?;
+    println!(rt;)
 }

@@ -1,10 +1,6 @@
 -- What new edition and share leave is what their definitions say, and from that alone follows what they mean: an edition is put in
 -- the lowest free slot, all others stay as they are, and a sound arena stays sound.
-use Prim.Native.Nat.{ℕ, ◌<◌}
-use mathlib.Core.Path.{◌≡◌, refl, sym, ap, ◌∙◌, subst}
-use mathlib.Core.Bool.{true, false}
-use mathlib.Core.List.{List}
-use native.Mathlib.Omega.{arith}
+use Rattle.std.proofs.Common.{◌≡◌, ℕ, ◌<◌, true, false, List, Some, None, Ok, Option, Result, sym, refl, ap, ◌∙◌, subst, arith}
 use Rattle.cases.proofs.Cases.{split}
 use Rattle.segments.specs.Segments.{segment}
 use Rattle.trie.specs.Trie.{Map, empty, size, listing}
@@ -32,7 +28,6 @@ use Rattle.makes.specs.Terms.{MakesNew, Shares}
 use Rattle.makes.proofs.PutLaws.{put_kept, put_new, put_Sound}
 use Rattle.arena.proofs.Equivalent.{held_slot_lem}
 use Rattle.arena.proofs.Shelved.{slots_in}
-use Rattle.std.specs.Prelude.{Option, Some, None, Result, Ok}
 
 -- what the code leaves, case by case
 module _ (z : Shape) (a : List ℕ) where

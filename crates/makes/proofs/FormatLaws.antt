@@ -1,10 +1,6 @@
 -- What format leaves is what its definition says, and from that alone it follows that the arena is sound and holds no edition.
-use Prim.Native.Nat.{ℕ, ◌≤◌, ◌<◌}
-use mathlib.Core.Path.{◌≡◌, refl, sym, ap, ◌∙◌, subst}
-use mathlib.Core.List.{List}
-use mathlib.Core.Logic.{⊎_elim}
-use lib.ListN.{length}
-use borrow.Author.Tests.{le-leb, lt-leb}
+use Rattle.std.proofs.Common.{◌≡◌, ℕ, ◌<◌, ◌≤◌, List, length, Ok, Err, Result, sym, refl, ap, ◌∙◌, subst, ⊎_elim, le-leb}
+use borrow.Author.Tests.{lt-leb}
 use Rattle.cases.proofs.Cases.{lt?}
 use Rattle.trie.specs.Trie.{Map}
 use Rattle.layout.specs.declared.Shape.{Shape}
@@ -24,7 +20,6 @@ use Rattle.replies.proofs.AnswerLaws.{refused_not_done}
 use Rattle.replies.specs.Outcomes.{Outcome, leaves}
 use Rattle.makes.specs.Calls.{format_in, format_of}
 use Rattle.makes.specs.Terms.{Formats}
-use Rattle.std.specs.Prelude.{Result, Ok, Err}
 use Rattle.layout.specs.declared.Misfit.{Misfit}
 use Rattle.layout.specs.declared.Misfit.TheVariants.{BadDegree, BadSizes}
 

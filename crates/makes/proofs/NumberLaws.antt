@@ -1,11 +1,5 @@
 -- Which number format, new edition and share give: document 01's table holds of the definitions of specs/Calls.antt, on any words.
-use Prim.Native.Nat.{ℕ, ◌≤◌, ◌<◌}
-use mathlib.Core.Path.{◌≡◌, refl}
-use mathlib.Core.Bool.{false}
-use mathlib.Core.List.{List}
-use mathlib.Core.Logic.{⊎_elim}
-use native.Mathlib.Omega.{arith}
-use lib.ListN.{length}
+use Rattle.std.proofs.Common.{◌≡◌, ℕ, ◌<◌, ◌≤◌, false, List, length, Some, None, Ok, Err, Option, refl, ⊎_elim, arith}
 use Rattle.cases.proofs.Cases.{split, lt?}
 use Rattle.segments.specs.Segments.{row_of}
 use Rattle.layout.specs.declared.Shape.{Shape}
@@ -21,10 +15,8 @@ use Rattle.makes.specs.Calls.{format_of, new_to, new_edition_in, new_edition_of,
 use Rattle.makes.proofs.FormatLaws.{format_done, format_short, format_degree, format_sizes}
 use Rattle.makes.proofs.EditionLaws.{new_At, new_none, share_At, share_NoneFree, held_shared_lem, share_not_held}
 use Rattle.replies.proofs.Tables.{AllHeld, End, Gives, HeaderNumbered, Held, Numbered, Row, by_free, by_Held, end, Gives-done, Gives-refusal, header_numbered, not_Held-Gives, numbered, row}
-use Rattle.std.specs.Prelude.{Option, Some, None, Ok, Err}
 use Rattle.layout.specs.declared.Misfit.TheVariants.{BadSizes}
 use Rattle.segments.specs.declared.DegreeRow.{DegreeRow}
-use Rattle.segments.specs.Segments.{found}
 
 -- FORMAT
 module _ (a : List ℕ) (g b n s : ℕ) where

@@ -1,11 +1,7 @@
 -- A map that the arena shows is put in a free slot: its root is named once more, and the slot gets its three words. Every
 -- edition that was held is held as it was, since no cell loses a word and no other slot is written; and a sound arena stays
 -- sound, since the root's count rises by the one slot that names it now.
-use Prim.Native.Nat.{ℕ, ◌+◌, ◌-◌, ◌^◌, ◌<◌}
-use mathlib.Core.Path.{◌≡◌, sym, ap, ◌∙◌, subst}
-use mathlib.Core.List.{List}
-use mathlib.Core.Logic.{⊎_elim}
-use native.Mathlib.Omega.{arith}
+use Rattle.std.proofs.Common.{◌≡◌, ℕ, ◌+◌, ◌-◌, ◌^◌, ◌<◌, List, sym, ap, ◌∙◌, subst, ⊎_elim, arith}
 use Rattle.cases.proofs.Cases.{split, lt?}
 use Rattle.counts.proofs.CountLaws.{upd_at}
 use Rattle.segments.specs.Segments.{segment}

@@ -59,6 +59,7 @@ fn share_held(a: &mut [u64], z: Shape, edition: u64) -> Result<u64, Refusal>
 }
 
 // An edition once more, in the lowest free slot.
+#[tactic(auto, using(cells::proofs::SlotLaws::held_in), unfolding(crate::specs::Calls::share_in))]
 pub fn share(a: &mut [u64], z: Shape, edition: u64) -> Result<u64, Refusal>
     requires { Lent z a.old }
     ensures { leaves (number_answer result) a.new ≡ share_in z a.old edition }

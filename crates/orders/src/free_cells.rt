@@ -2,6 +2,7 @@
 //! and 6 slots: branch cells of 19 words lie from word 30 on, and behind them the entry cells, of 6 words.
 ghost use Rattle.std.specs.Prelude.{◌<◌, ◌≤◌};
 
+use layout::Kind;
 use shown::lent;
 
 // No arena here has more branch cells or more entry cells.
@@ -19,30 +20,13 @@ fn is_free(a: &[u64], at: usize, width: usize) -> bool
     lent::word(a, at) == 0 && is_zero(a, at + 2, at + width)
 }
 
-#[derive(Clone, Copy, Debug, PartialEq, Eq)]
-enum Kind {
-    Branch,
-    Entry,
-}
-
-impl Kind {
-    // What a reference names: a branch cell by an even number, an entry cell by an odd one.
-    fn of(r: u64) -> Self {
-        if r % 2 == 0 {
-            Kind::Branch
-        } else {
-            Kind::Entry
-        }
-    }
-
-    // How many words a cell has.
-    fn width(self) -> usize
-        ensures { result ≤ 19 }
-    {
-        match self {
-            Kind::Branch => 19,
-            Kind::Entry => 6,
-        }
+// How many words a cell has.
+fn width(kind: Kind) -> usize
+    ensures { result ≤ 19 }
+{
+    match kind {
+        Kind::Branch => 19,
+        Kind::Entry => 6,
     }
 }
 
@@ -69,7 +53,7 @@ fn behind(a: &[u64], branches: u64, kind: Kind, r: u64) -> Option<u64>
         return None;
     }
     let at = place(branches, kind, cell);
-    if is_free(a, at, kind.width()) {
+    if is_free(a, at, width(kind)) {
         Some(lent::word(a, at + 1))
     } else {
         None

@@ -3,7 +3,7 @@ ghost use Rattle.std.specs.Prelude.{◌≤◌};
 
 use crate::every;
 use crate::every::Set;
-use shown::{answer, entries, steps};
+use shown::{entries, steps};
 use std::io;
 
 // The editions before one.
@@ -15,7 +15,7 @@ fn drop_before(a: &mut [u64], edition: u64) {
 
 // K1 up to a step, in slots 1 and on.
 fn first_steps(a: &mut [u64], last: u64) {
-    steps::before(a, answer::count(last));
+    steps::before(a, last.saturating_add(1));
     drop_before(a, 1);
 }
 
@@ -44,28 +44,18 @@ fn long_chains(a: &mut [u64]) {
     let _ = shelf::remove(a, 0, entries::CHAIN, 6);
 }
 
-fn three(branches: u64, entries: u64) -> Set {
+fn set(branches: u64, entries: u64, editions: u64) -> Set {
     Set {
         branches,
         entries,
-        editions: 3,
-        orders: 6,
-    }
-}
-
-fn four(branches: u64, entries: u64) -> Set {
-    Set {
-        branches,
-        entries,
-        editions: 4,
-        orders: 24,
+        editions,
     }
 }
 
 // A set in an arena of so many words.
 fn tried<F: Fn(&mut [u64])>(
     rt: &impl Print,
-    label: &[u8],
+    label: &str,
     words: usize,
     set: Set,
     make: F,
@@ -73,7 +63,7 @@ fn tried<F: Fn(&mut [u64])>(
     requires most { words ≤ 997 }
     requires callable { F.IsAlwaysCallable make }
 {
-    print::say(rt, label)?;
+    println!(rt; "{label}")?;
     let mut room = [0u64; every::WORDS];
     let a = &mut room[..words];
     let _ = shelf::format(a, 16, set.branches, set.entries, 6);
@@ -82,29 +72,29 @@ fn tried<F: Fn(&mut [u64])>(
 }
 
 pub fn show(rt: &impl Print) -> io::Result<()> {
-    print::say(rt, b"Editions dropped in every order (degree 16)\n")?;
+    println!(rt; "Editions dropped in every order (degree 16)")?;
     tried(
         rt,
-        b"  K1, K2 and K3\n",
+        "  K1, K2 and K3",
         124,
-        three(4, 3),
+        set(4, 3, 3),
         |a| first_steps(a, 3),
     )?;
     tried(
         rt,
-        b"  K1, K2, K3 and K4\n",
+        "  K1, K2, K3 and K4",
         149,
-        four(5, 4),
+        set(5, 4, 4),
         |a| first_steps(a, 4),
     )?;
     tried(
         rt,
-        b"  K9, a share of K9, K2 and K10\n",
+        "  K9, a share of K9, K2 and K10",
         124,
-        four(4, 3),
+        set(4, 3, 4),
         roots,
     )?;
-    tried(rt, b"  K7, K8 and K5\n", 465, three(21, 6), short_chains)?;
-    let long = b"  K5 with key 6, without key 6 again, and K5\n";
-    tried(rt, long, 997, three(49, 6), long_chains)
+    tried(rt, "  K7, K8 and K5", 465, set(21, 6, 3), short_chains)?;
+    let long = "  K5 with key 6, without key 6 again, and K5";
+    tried(rt, long, 997, set(49, 6, 3), long_chains)
 }

@@ -8,11 +8,13 @@ use lib.Dec.{leb, eqb}
 use lib.ListN.{length}
 use Rattle.cases.proofs.Cases.{split}
 use Rattle.trie.specs.Entry.{Got, absent, got}
+use Rattle.trie.specs.declared.Entry.{Entry}
 use Rattle.layout.specs.declared.Shape.{Shape}
 use Rattle.layout.specs.Layout.{total}
 use Rattle.layout.specs.Header.{shape_of, header_of}
 use Rattle.cells.specs.Mirrors.{Wrote}
 use Rattle.cells.specs.Slots.{held_slot, free_slot}
+use Rattle.chains.specs.Chains.{an_entry}
 use Rattle.replies.specs.declared.Refusal.{Refusal}
 use Rattle.replies.specs.declared.Refusal.TheVariants as Why
 use Rattle.replies.specs.Answers.{Answer, refused, unit_answer, number_answer, update_answer, cells_answer, took, cell_counts}
@@ -102,19 +104,19 @@ hold_Says : (z : Shape) (s size branches entries : ℕ) (w : Wrote) → Says upd
 hold_Says z s size branches entries w =
     by_root z s size branches entries w (Says update_answer) (says (Err Why.NoBranchCells)) (says (took s branches entries))
 
-write_Says : (z : Shape) (a : List ℕ) (h k v : ℕ) (p : Plan) (s : ℕ) → Says update_answer (write_to z a h k v p s)
+write_Says : (z : Shape) (a : List ℕ) (x : Entry) (p : Plan) (s : ℕ) → Says update_answer (write_to z a x p s)
 unfolding write_to
-write_Says z a h k v p s = by_wrote (Says update_answer) _ Why.NoEntryCells (says (Err Why.NoEntryCells)) (λ leaf b. hold_Says z s _ _ _ _)
+write_Says z a x p s = by_wrote (Says update_answer) _ Why.NoEntryCells (says (Err Why.NoEntryCells)) (λ leaf b. hold_Says z s _ _ _ _)
 
 chain_Says : (z : Shape) (h : ℕ) (p : Cut) (s : ℕ) (w : Wrote) → Says update_answer (chain_to z h p s w)
 unfolding chain_to
 chain_Says z h p s w =
-    by_test (Says update_answer) (lacks w.at p.before) (says (Err Why.NoEntryCells)) (hold_Says z s _ _ _ _)
+    by_test (Says update_answer) (lacks w.at p.tail.count) (says (Err Why.NoEntryCells)) (hold_Says z s _ _ _ _)
 
 cut_Says : (z : Shape) (a : List ℕ) (h : ℕ) (p : Cut) (s : ℕ) → Says update_answer (cut_to z a h p s)
 unfolding cut_to
 cut_Says z a h p s =
-    by_test (Says update_answer) p.empty (says (took s p.branches p.before)) (chain_Says z h p s _)
+    by_test (Says update_answer) p.empty (says (took s p.branches p.tail.count)) (chain_Says z h p s _)
 
 drop_Says : (a : List ℕ) (e : ℕ) → Says cells_answer (drop_of a e)
 unfolding drop_in free_in
@@ -144,7 +146,7 @@ a_program =
       insert =
           λ a e h k v fits.
           did (insert_of a e h k v)
-          (update_Says a e (writing a e h k v false) (λ z. write_Says z a h k v (plan_of z a e h k))) (inserts a e h k v fits);
+          (update_Says a e (writing a e h k v false) (λ z. write_Says z a (an_entry h k v) (plan_of z a e h k))) (inserts a e h k v fits);
       remove =
           λ a e h k.
           did (remove_of a e h k) (update_Says a e (removing a e h k) (λ z. cut_Says z a h (cut_of z a e h k))) (removes a e h k);

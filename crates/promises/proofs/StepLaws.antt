@@ -2,7 +2,7 @@
 use Prim.Native.Nat.{ℕ, ◌<◌}
 use mathlib.Core.Path.{◌≡◌, sym, ap, ◌∙◌}
 use Rattle.segments.specs.Segments.{segment}
-use Rattle.trie.specs.Entry.{Entry}
+use Rattle.trie.specs.declared.Entry.{Entry}
 use Rattle.trie.specs.Trie.{Map, updated}
 use Rattle.trie.specs.Names.{rename_updated}
 use Rattle.trie.proofs.RenameMaps.{rename-insert, rename-remove, rename-remove_takes, takes_any_names}

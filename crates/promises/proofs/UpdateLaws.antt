@@ -7,7 +7,8 @@ use native.Mathlib.Omega.{arith}
 use Rattle.segments.specs.Segments.{segment}
 use Rattle.layout.specs.declared.Shape.{Shape}
 use Rattle.layout.proofs.SizeLaws.{row_is_Right}
-use Rattle.trie.specs.Entry.{Entry, Word64, Got, absent, got}
+use Rattle.trie.specs.declared.Entry.{Entry}
+use Rattle.trie.specs.Entry.{Word64, Got, absent, got}
 use Rattle.trie.specs.Trie as T
 use Rattle.trie.specs.Trie.{Map, size, get, listing}
 use Rattle.trie.specs.Listing.{lookup, Once}

@@ -1,6 +1,7 @@
 -- What an update leaves to be seen by the public calls that look: the new edition differs from the old one in one key.
 use Rattle.std.specs.Prelude.{ℕ, ◌≡◌, List, length, Result}
-use Rattle.trie.specs.Entry.{Entry, Got}
+use Rattle.trie.specs.declared.Entry.{Entry}
+use Rattle.trie.specs.Entry.{Got}
 use Rattle.trie.specs.Listing.{lookup, Once}
 use Rattle.replies.specs.Answers.{number_answer}
 use Rattle.replies.specs.Outcomes.{leaves}

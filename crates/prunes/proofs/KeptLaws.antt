@@ -1,8 +1,6 @@
 -- The new path of a removal keeps words 0 to 7, the words beyond the total and the length, on any words: what is written is a
 -- share's count and the words of branch cells that were taken.
-use Prim.Native.Nat.{ℕ, zero, suc}
-use mathlib.Core.Bool.{false, cond}
-use mathlib.Core.List.{List}
+use Rattle.std.proofs.Common.{ℕ, zero, suc, false, cond, List}
 use Rattle.cases.proofs.Cases.{split}
 use Rattle.segments.specs.Segments.{segment}
 use Rattle.layout.specs.declared.Shape.{Shape}

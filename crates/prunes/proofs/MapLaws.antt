@@ -1,11 +1,6 @@
 -- A removal on a map: what the reading pass says will be left of it, and what the writing of its new path comes to, where
 -- something is left.
-use Prim.Native.Nat.{ℕ, ◌≤◌}
-use mathlib.Core.Path.{◌≡◌, refl, sym, ap, ◌∙◌}
-use mathlib.Core.Bool.{true, false, cond}
-use mathlib.Core.List.{List, [], ◌∷◌}
-use native.Mathlib.Omega.{arith}
-use lib.ListN.{length}
+use Rattle.std.proofs.Common.{◌≡◌, ℕ, ◌≤◌, true, false, cond, List, [], ◌∷◌, length, sym, refl, ap, ◌∙◌, arith}
 use Rattle.cases.proofs.Cases.{split}
 use Rattle.counts.specs.Counts.{ind}
 use Rattle.segments.specs.Segments.{segment}

@@ -1,14 +1,6 @@
 -- On an edition the new path of a removal on the words is what the trie's own removal makes: at each branch the child on the path
 -- is taken out where it was emptied, and else put back as what was made below.
-use Prim.Native.Nat.{ℕ, zero, suc, ◌+◌, ◌≤◌}
-use mathlib.Core.Path.{◌≡◌, refl, sym, ◌∙◌}
-use mathlib.Core.Bool.{Bool, true, false, cond}
-use mathlib.Core.List.{List, [], ◌∷◌}
-use mathlib.Core.Logic.{⊎_elim}
-use native.Mathlib.Omega.{arith}
-use lib.Dec.{eqb}
-use lib.ListN.{length}
-use borrow.Author.Tests.{eq-eqb, ne_eqb}
+use Rattle.std.proofs.Common.{◌≡◌, ℕ, zero, suc, ◌+◌, ◌≤◌, Bool, true, false, cond, eqb, List, [], ◌∷◌, length, Some, sym, refl, ◌∙◌, ⊎_elim, arith, eq-eqb, ne_eqb}
 use Rattle.counts.specs.Counts.{ind}
 use Rattle.counts.proofs.CountLaws.{ind_other}
 use Rattle.segments.specs.Segments.{segment}
@@ -35,7 +27,6 @@ use Rattle.prunes.specs.Prunes.{below_settled, child_cut, is_emptied, prune_from
 use Rattle.prunes.proofs.LeftLaws.{leaf_named}
 use Rattle.prunes.proofs.SettledLaws.{settle_means, cut_means}
 use Rattle.prunes.proofs.StepMeaning.{left_on, settled_room, settled-Names}
-use Rattle.std.specs.Prelude.{Some}
 
 -- ONE STEP DOWN
 module _ (z : Shape) (h x n t r : ℕ) (a : List ℕ) where

@@ -1,7 +1,5 @@
 -- A row with one word taken out: the words before it stay, and those behind it come down by one place.
-use Prim.Native.Nat.{ℕ, suc, ◌≤◌, ◌<◌}
-use mathlib.Core.Path.{◌≡◌}
-use borrow.Author.Tests.{lt-ltb, le-ltb}
+use Rattle.std.proofs.Common.{◌≡◌, ℕ, suc, ◌<◌, ◌≤◌, le-ltb, lt-ltb}
 use Rattle.prunes.specs.Prunes.{row_out}
 
 module _ (f : ℕ → ℕ) (p k : ℕ) where

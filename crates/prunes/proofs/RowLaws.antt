@@ -1,9 +1,7 @@
 -- The children of a branch with one taken out, as a row and as a bitmap. The place of a segment is how many children stand at
 -- lower ones; those behind it go down by one place.
-use Prim.Native.Nat.{ℕ, suc, ◌+◌, ◌-◌, ◌*◌, ◌^◌, ◌<◌}
-use mathlib.Core.Path.{◌≡◌, sym, ◌∙◌, fun_ext}
-use mathlib.Core.Logic.{⊎_elim}
-use native.Mathlib.Omega.{arith}
+use Rattle.std.proofs.Common.{◌≡◌, ℕ, suc, ◌+◌, ◌-◌, ◌*◌, ◌^◌, ◌<◌, sym, ◌∙◌, ⊎_elim, arith}
+use mathlib.Core.Path.{fun_ext}
 use Rattle.cases.proofs.Cases.{lt?, Tri, is_less, is_equal, is_more, tri}
 use Rattle.sparse_array.specs.Bitmap.{bit, below}
 use Rattle.layout.specs.Columns.{State}

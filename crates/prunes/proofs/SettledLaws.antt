@@ -1,9 +1,6 @@
 -- One step up of a removal's path, by whether a single is all that is left of the branch: what stands in its place shows what the
 -- trie's compress makes.
-use Prim.Native.Nat.{ℕ, suc, ◌≤◌, ◌<◌}
-use mathlib.Core.Path.{◌≡◌}
-use mathlib.Core.List.{List}
-use lib.ListN.{length}
+use Rattle.std.proofs.Common.{◌≡◌, ℕ, suc, ◌<◌, ◌≤◌, List, length}
 use Rattle.cases.proofs.Cases.{split}
 use Rattle.segments.specs.Segments.{segment}
 use Rattle.layout.specs.declared.Shape.{Shape}

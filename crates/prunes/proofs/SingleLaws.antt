@@ -1,13 +1,6 @@
 -- What the tests of a removal say of what is shown: whether a node is a single, whether a branch has a second child, and whether
 -- a single is all that is left of a branch. The last is when compress makes a branch its only child.
-use Prim.Native.Nat.{ℕ, suc}
-use mathlib.Core.Path.{◌≡◌, refl, sym, ap, ◌∙◌}
-use mathlib.Core.Bool.{Bool, true, false, cond}
-use mathlib.Core.Logic.{⊎_elim}
-use mathlib.Core.List.{[], ◌∷◌}
-use native.Mathlib.Omega.{arith}
-use lib.Dec.{eqb}
-use borrow.Author.Tests.{eq-eqb, ne_eqb}
+use Rattle.std.proofs.Common.{◌≡◌, ℕ, suc, Bool, true, false, cond, eqb, [], ◌∷◌, sym, refl, ap, ◌∙◌, ⊎_elim, arith, eq-eqb, ne_eqb}
 use Rattle.cases.proofs.Cases.{eq?, Tri, is_less, is_equal, is_more, tri}
 use Rattle.sparse_array.specs.Bitmap.{below}
 use Rattle.layout.specs.declared.Shape.{Shape}

@@ -1,11 +1,6 @@
 -- One step up of a removal's path: a branch takes back the child that was made below, or loses the child that was emptied, and
 -- where a single is all that is left it becomes that single. What the words then show is what the trie's compress makes.
-use Prim.Native.Nat.{ℕ, suc, ◌+◌, ◌≤◌, ◌<◌}
-use mathlib.Core.Path.{◌≡◌, sym, ap, ◌∙◌}
-use mathlib.Core.Bool.{Bool, true, false, cond}
-use mathlib.Core.List.{List, [], ◌∷◌}
-use native.Mathlib.Omega.{arith}
-use lib.ListN.{length, get_or}
+use Rattle.std.proofs.Common.{◌≡◌, ℕ, suc, ◌+◌, ◌<◌, ◌≤◌, Bool, true, false, cond, List, [], ◌∷◌, length, get_or, sym, ap, ◌∙◌, arith}
 use Rattle.cases.proofs.Cases.{split}
 use Rattle.counts.specs.Counts.{times}
 use Rattle.segments.specs.Segments.{segment}

@@ -4,6 +4,8 @@
 //!
 //! A caller may rely on this: on any words a removal goes no deeper than the degree has depths, writes what its mirror in
 //! specs/Prunes.antt says and stays inside the arena, and answers 0 where no cell could be taken.
+//!
+//! A reference is answered as it is stored, 0 for none: that is document 01's word for it, and what `Wrote` in the mirrors holds.
 
 #![tactic(auto)]
 
@@ -21,6 +23,7 @@ use layout::{Shape, words};
 use lookup::links;
 
 // What is left of a node when an entry is taken out: nothing, a single, or more, with so many branches on the path.
+// Three outcomes, so no `Option`.
 #[derive(Clone, Copy)]
 pub enum Left {
     Nothing,
@@ -29,6 +32,7 @@ pub enum Left {
 }
 
 // Whether a reference names an entry with none behind it.
+#[tactic(auto, using(lookup::proofs::FindLaws::has_part), unfolding(crate::specs::Prunes::is_a_single))]
 fn is_single(a: &[u64], z: Shape, r: u64) -> bool
     requires { Lent z a.now }
     ensures { result ≡ is_a_single z (columns z a.now) r }
@@ -37,6 +41,7 @@ fn is_single(a: &[u64], z: Shape, r: u64) -> bool
 }
 
 // Whether a branch has no more than one child.
+#[tactic(auto, unfolding(crate::specs::Prunes::is_the_only))]
 fn is_only(a: &[u64], z: Shape, r: u64) -> bool
     requires { Lent z a.now }
     ensures { result ≡ is_the_only z (columns z a.now) r }
@@ -45,6 +50,7 @@ fn is_only(a: &[u64], z: Shape, r: u64) -> bool
 }
 
 // Child `k` of a branch once the one at place `at` is taken out.
+#[tactic(auto, unfolding(crate::specs::Prunes::row_out))]
 fn out(a: &[u64], z: Shape, r: u64, at: u64, k: u64) -> u64
     requires lent { Lent z a.now }
     requires in_row { k < 64 }
@@ -57,6 +63,7 @@ fn out(a: &[u64], z: Shape, r: u64, at: u64, k: u64) -> u64
 }
 
 // Whether a single is all that is left of a branch once the child at a place is taken out.
+#[tactic(auto, unfolding(crate::specs::Prunes::is_lone))]
 fn leaves_single(a: &[u64], z: Shape, r: u64, at: u64) -> bool
     requires { Lent z a.now }
     ensures { result ≡ is_lone z (columns z a.now) r at }
@@ -75,6 +82,7 @@ fn place(a: &[u64], z: Shape, hash: u64, depth: u64, r: u64) -> u64
 }
 
 // What is left of a chain, by its length.
+#[tactic(auto, unfolding(crate::specs::Prunes::left_of_chain))]
 fn chain_left(length: u64) -> Left
     ensures { result ≡ left_of_chain length }
 {
@@ -88,6 +96,7 @@ fn chain_left(length: u64) -> Left
 }
 
 // What is left of a branch whose child on the path is emptied.
+#[tactic(auto, unfolding(crate::specs::Prunes::left_of_cut))]
 fn cut_left(a: &[u64], z: Shape, hash: u64, depth: u64, r: u64) -> Left
     requires lent { Lent z a.now }
     requires in_depths { depth < z.depths }
@@ -104,6 +113,7 @@ fn cut_left(a: &[u64], z: Shape, hash: u64, depth: u64, r: u64) -> Left
 }
 
 // What is left of a branch, by what is left of its child on the path.
+#[tactic(auto, unfolding(crate::specs::Prunes::left_of_settled))]
 fn settled_left(a: &[u64], z: Shape, hash: u64, depth: u64, r: u64, below: Left) -> Left
     requires lent { Lent z a.now }
     requires in_depths { depth < z.depths }
@@ -152,6 +162,7 @@ fn comes_up(a: &[u64], z: Shape, r: u64, child: u64) -> bool
 }
 
 // A branch with another child on the path: that child itself, where it is a single and the only one.
+#[tactic(auto, unfolding(crate::specs::Prunes::child_settled))]
 fn settle_child(a: &mut [u64], z: Shape, hash: u64, depth: u64, r: u64, child: u64) -> u64
     requires lent { Lent z a.old }
     requires in_depths { depth < z.depths }
@@ -164,6 +175,7 @@ fn settle_child(a: &mut [u64], z: Shape, hash: u64, depth: u64, r: u64, child: u
 }
 
 // The same with what was made below, where that is not 0.
+#[tactic(auto, using(grafts::proofs::StepLaws::below_none, grafts::proofs::StepLaws::below_some))]
 fn settle_below(a: &mut [u64], z: Shape, hash: u64, depth: u64, r: u64, below: u64) -> u64
     requires lent { Lent z a.old }
     requires in_depths { depth < z.depths }
@@ -207,6 +219,7 @@ fn cut_branch(a: &mut [u64], z: Shape, segment: u64, depth: u64, r: u64, at: u64
 }
 
 // A branch without its child on the path: the one child that is left, where it is a single.
+#[tactic(auto, using(lookup::proofs::Meaning::segment_low), unfolding(crate::specs::Prunes::child_cut))]
 fn cut_child(a: &mut [u64], z: Shape, hash: u64, depth: u64, r: u64) -> u64
     requires lent { Lent z a.old }
     requires in_depths { depth < z.depths }
@@ -229,6 +242,7 @@ fn cut_child(a: &mut [u64], z: Shape, hash: u64, depth: u64, r: u64) -> u64
 }
 
 // Whether a child is the chain at the end of the path, and nothing is left of it.
+#[tactic(auto, unfolding(crate::specs::Prunes::is_emptied))]
 fn becomes_empty(z: Shape, leaf: u64, left: u64, child: u64) -> bool
     ensures { result ≡ is_emptied z leaf left child }
 {

@@ -1,6 +1,7 @@
 //! The header, and where words lie.
 ghost use Rattle.std.specs.Prelude.{◌≤◌};
 
+// An enum of this crate's own: the decision uses nothing of the shelf, so that a fault of one is no fault of the other.
 #[derive(Clone, Copy, Debug, PartialEq, Eq)]
 pub enum Kind {
     Branch,
@@ -93,11 +94,7 @@ impl<'a> Arena<'a> {
             branches: at(words, 2),
             entries: at(words, 3),
         };
-        if arena.are_sizes_small() && arena.fits() {
-            Some(arena)
-        } else {
-            None
-        }
+        (arena.are_sizes_small() && arena.fits()).then_some(arena)
     }
 
     fn are_sizes_small(self) -> bool {

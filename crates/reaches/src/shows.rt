@@ -50,7 +50,7 @@ fn entries_on(a: Arena, path: &[u64], depth: u64, front: u64) -> Option<u64> {
         }
         r = a.word(r, 2);
     }
-    if r == 0 { Some(length) } else { None }
+    (r == 0).then_some(length)
 }
 
 fn is_single(a: Arena, r: u64) -> bool {
@@ -92,9 +92,5 @@ pub fn entries_below(a: Arena, path: &mut [u64], depth: u64, r: u64) -> Option<u
             children = children.saturating_add(1);
         }
     }
-    if is_whole(a, depth, r, children) {
-        Some(entries)
-    } else {
-        None
-    }
+    is_whole(a, depth, r, children).then_some(entries)
 }

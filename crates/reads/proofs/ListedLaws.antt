@@ -7,7 +7,7 @@ use native.Mathlib.Nat.{not-suc-le-zero, le_of_suc-le-suc}
 use native.Mathlib.Omega.{arith}
 use lib.ListN.{length, get_or, take, drop, length-append, length-take, length-drop, get_or-append}
 use lib.Seq.{take_all, get_or-append-add, get_or-take, get_or-drop, drop-drop}
-use Rattle.trie.specs.Entry.{Entry}
+use Rattle.trie.specs.declared.Entry.{Entry}
 use Rattle.reads.specs.Listed.{entry_words, written, written_over}
 
 -- WHICH ENTRIES ARE WRITTEN. As many as the room has threes, or as there are from the place on if these are fewer

@@ -10,12 +10,10 @@ use native.Mathlib.Omega.{arith}
 use lib.Dec.{eqb}
 use lib.ListN.{length, set, take, drop, length-append, take-append-drop}
 use lib.Seq.{sets, sets-eq, length-sets, length-take-le, take_at, drop-append-add, drop-drop, take-nil}
-use Rattle.trie.specs.Entry.{Entry, Got, absent, got}
+use Rattle.trie.specs.declared.Entry.{Entry}
+use Rattle.trie.specs.Entry.{Got, absent, got}
 use Rattle.trie.specs.Trie.{answers, every}
 use Rattle.layout.specs.declared.Shape.{Shape}
-use Rattle.layout.specs.Columns.{columns, word}
-use Rattle.lookup.specs.Lookup.{names_kind, entry_at, get_below}
-use Rattle.lookup.proofs.FindLaws.{entry_word}
 use Rattle.reads.specs.Listed.{entry_words, written, written_over}
 use Rattle.iter.specs.Met.{met}
 use Rattle.reads.specs.Agrees.{agree, is_entry_in}
@@ -84,11 +82,11 @@ written_first out end e fs room =
     ∙ append_assoc (take end out) words (entry_words fs ++ drop (end + 3 * suc (length fs)) out)
 
 -- A TURN: the words of the next entry are stored
-pub Rest-next : {out₀ out : List ℕ} {all es es' : List Entry} {e : Entry} {end count h k v : ℕ} → Rest out₀ out all es end count
-    → es ≡ e ∷ es' → 3 ≤ length out - end → h ≡ e.hash → k ≡ e.key → v ≡ e.value
-    → Rest out₀ (set (set (set out end h) (end + 1) k) (end + 2) v) all es' (end + 3) (count + 1)
-Rest-next {out₀} {out} {all} {es} {es'} {e} {end} {count} {h} {k} {v} R next room eh ek ev =
-    rw (eh, ek, ev, three_stores out end e.hash e.key e.value) turned
+pub Rest-next : {out₀ out : List ℕ} {all es es' : List Entry} {e x : Entry} {end count : ℕ} → Rest out₀ out all es end count
+    → es ≡ e ∷ es' → 3 ≤ length out - end → x ≡ e
+    → Rest out₀ (set (set (set out end x.hash) (end + 1) x.key) (end + 2) x.value) all es' (end + 3) (count + 1)
+Rest-next {out₀} {out} {all} {es} {es'} {e} {x} {end} {count} R next room is =
+    rw (is, three_stores out end e.hash e.key e.value) turned
   where
     stored : List ℕ
     stored = sets out end (e.hash ∷ e.key ∷ e.value ∷ [])
@@ -157,17 +155,9 @@ pub is_in_missing : {g : Got} (w : ℕ) → g ≡ absent → answers g w ≡ fal
 unfolding answers
 is_in_missing w missing = rw missing
 
--- an entry's words in its cell, and what a comparison tests
-pub part_is : (z : Shape) (a : List ℕ) (r j w : ℕ) → names_kind z 1 r ≡ true → j < 3 → w ≡ word z a r (3 + j) → w ≡ (columns z a).plain r j
-part_is z a r j w e l q = q ∙ sym (entry_word z a r j e l)
-
-pub is_entry_in_words : (z : Shape) (a : List ℕ) (root r h k w : ℕ) → names_kind z 1 r ≡ true → h ≡ word z a r 3 → k ≡ word z a r 4
-    → w ≡ word z a r 5 → answers (get_below z a root h k) w ≡ is_entry_in z a root (entry_at (columns z a) r)
-is_entry_in_words z a root r h k w e eh ek ew =
-    let ph = part_is z a r 0 h e (omega arith) eh in
-    let pk = part_is z a r 1 k e (omega arith) ek in
-    let pw = part_is z a r 2 w e (omega arith) ew in
-    λ i. answers (get_below z a root (ph i) (pk i)) (pw i)
+-- the test of the entry that was read is that of the entry that its cell holds
+pub in_same : (z : Shape) (a : List ℕ) (r : ℕ) {x e : Entry} {b t : Bool} → x ≡ e → t ≡ is_entry_in z a r x → t ≡ b → is_entry_in z a r e ≡ b
+in_same z a r is test says = rw (← is) (sym test ∙ says)
 
 pub agree_start : (z : Shape) (a : List ℕ) (r s : ℕ) {es : List Entry} → es ≡ met z a r → agree z a r s ≡ every (is_entry_in z a s) es
 agree_start z a r s e = ap (every (is_entry_in z a s)) (sym e)

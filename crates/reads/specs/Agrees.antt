@@ -1,7 +1,7 @@
 -- Document 01: "each entry of one is in the other with the same value". The one is what is met below a root, on any words, and
 -- the other is what a lookup finds below another root.
 use Rattle.std.specs.Prelude.{ℕ, Bool, List}
-use Rattle.trie.specs.Entry.{Entry}
+use Rattle.trie.specs.declared.Entry.{Entry}
 use Rattle.trie.specs.Trie.{answers, every}
 use Rattle.layout.specs.declared.Shape.{Shape}
 use Rattle.lookup.specs.Lookup.{get_below}

@@ -1,7 +1,7 @@
 -- Document 01: "Listing from a place writes hash, key, value for each entry while three words of room remain, and answers how
 -- many. .. The remaining room is left."
 use Rattle.std.specs.Prelude.{ℕ, ◌*◌, ◌/◌, List, [], ◌∷◌, ◌++◌, length, take, drop}
-use Rattle.trie.specs.Entry.{Entry}
+use Rattle.trie.specs.declared.Entry.{Entry}
 
 -- the words of entries: hash, key, value for each
 abbrev pub entry_words : List Entry → List ℕ

@@ -12,7 +12,8 @@ ghost use Rattle.reads.specs.Listed.{written, written_over};
 ghost use Rattle.reads.specs.Agrees.{is_entry_in, agree};
 
 use iter::Walk;
-use layout::{Shape, words};
+use layout::Shape;
+use trie::Entry;
 
 // The words that an entry takes in an output: hash, key, value.
 pub const ENTRY_WORDS: usize = 3;
@@ -47,10 +48,10 @@ fn write(a: &[u64], z: Shape, walk: &mut Walk, out: &mut [u64]) -> u64
             return k as u64;
         }
         let end = ENTRY_WORDS * k;
-        let entry = walk.at;
-        out[end] = words::word(a, z, entry, words::HASH);
-        out[end + 1] = words::word(a, z, entry, words::KEY);
-        out[end + 2] = words::word(a, z, entry, words::VALUE);
+        let entry = lookup::entry(a, z, walk.at);
+        out[end] = entry.hash;
+        out[end + 1] = entry.key;
+        out[end + 2] = entry.value;
         walk.next(a, z);
     }
     room as u64
@@ -68,24 +69,19 @@ pub fn list(a: &[u64], z: Shape, root: u64, place: u64, out: &mut [u64]) -> u64
 }
 
 // Whether an entry stands below a root with the same value.
-fn is_in(a: &[u64], z: Shape, root: u64, entry: u64) -> bool
-    requires lent { Lent z a.now }
-    requires is_entry { names_kind z 1 entry ≡ true }
-    ensures { result ≡ is_entry_in z a.now root (entry_at (columns z a.now) entry) }
+#[tactic(auto, using(crate::proofs::WriteLaws::is_in_value, crate::proofs::WriteLaws::is_in_missing))]
+fn is_in(a: &[u64], z: Shape, root: u64, entry: Entry) -> bool
+    requires { Lent z a.now }
+    ensures { result ≡ is_entry_in z a.now root entry }
 {
-    let hash = words::word(a, z, entry, words::HASH);
-    let key = words::word(a, z, entry, words::KEY);
-    match lookup::find(a, z, lookup::descend(a, z, root, hash), hash, key) {
-        Some(r) => {
-            let found = words::word(a, z, r, words::VALUE);
-            found == words::word(a, z, entry, words::VALUE)
-        }
+    match lookup::get(a, z, root, entry.hash, entry.key) {
+        Some(value) => value == entry.value,
         None => false,
     }
 }
 
 // Whether each entry below the first root is below the second with the same value.
-#[tactic(auto, using(crate::proofs::WriteLaws::agree_start, crate::proofs::WriteLaws::every_stop, crate::proofs::WriteLaws::every_next, crate::proofs::WriteLaws::every_none, iter::proofs::WalkLaws::met_stop, iter::proofs::WalkLaws::met_entry, iter::proofs::WalkLaws::entry_here))]
+#[tactic(auto, using(crate::proofs::WriteLaws::agree_start, crate::proofs::WriteLaws::in_same, crate::proofs::WriteLaws::every_stop, crate::proofs::WriteLaws::every_next, crate::proofs::WriteLaws::every_none, iter::proofs::WalkLaws::met_stop, iter::proofs::WalkLaws::met_entry, iter::proofs::WalkLaws::entry_here))]
 pub fn agrees(a: &[u64], z: Shape, first: u64, second: u64) -> bool
     requires { Lent z a.now }
     ensures { result ≡ agree z a.now first second }
@@ -93,7 +89,7 @@ pub fn agrees(a: &[u64], z: Shape, first: u64, second: u64) -> bool
     // A while: the walk itself shows how many entries there are.
     let mut walk = Walk::start(a, z, first);
     while walk.has_entry(z) {
-        if !is_in(a, z, second, walk.at) {
+        if !is_in(a, z, second, lookup::entry(a, z, walk.at)) {
             return false;
         }
         walk.next(a, z);

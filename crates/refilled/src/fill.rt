@@ -2,10 +2,10 @@
 //! older one, and so on.
 use crate::keys;
 use shelf::{Refusal, Updated};
-use shown::answer;
 
-// Where the updates stand: the edition that they began with, the one that the last made, the one that the tenth made, and the key that is inserted next;
-// how many there were, and how many were to remove a key that is not there. What ended them is the number of a refusal.
+// Where the updates stand: the edition that they began with, the one that the last made, the one that the tenth made, and the
+// key that is inserted next; how many there were, how many were to remove a key that is not there, and the refusal that ended
+// them.
 #[derive(Clone, Copy, Debug)]
 pub struct Run {
     pub first: u64,
@@ -14,7 +14,7 @@ pub struct Run {
     pub key: u64,
     pub made: u64,
     pub absent: u64,
-    pub ended: Option<u64>,
+    pub ended: Option<Refusal>,
 }
 
 impl Run {
@@ -33,38 +33,32 @@ impl Run {
 
     fn at(mut self, edition: u64) -> Self {
         self.edition = edition;
-        self.made = answer::count(self.made);
+        self.made = self.made.saturating_add(1);
         if self.made == 10 {
             self.tenth = edition;
         }
         self
     }
 
-    fn refused(mut self, number: u64) -> Self {
-        if number == 6 {
-            self.absent = answer::count(self.absent);
+    fn refused(mut self, why: Refusal) -> Self {
+        if why == Refusal::Absent {
+            self.absent = self.absent.saturating_add(1);
         } else {
-            self.ended = Some(number);
+            self.ended = Some(why);
         }
         self
     }
 
     fn after(self, answer: Result<Updated, Refusal>) -> Self {
         match answer {
-            Ok(
-                Updated {
-                    edition,
-                    branches: _,
-                    entries: _,
-                },
-            ) => self.at(edition),
-            Err(why) => self.refused(why.number()),
+            Ok(made) => self.at(made.edition),
+            Err(why) => self.refused(why),
         }
     }
 
     fn insert(mut self, a: &mut [u64]) -> Self {
         let key = self.key;
-        self.key = answer::count(key);
+        self.key = key.saturating_add(1);
         self.after(shelf::insert(a, self.edition, keys::hash_of(key), key, key))
     }
 

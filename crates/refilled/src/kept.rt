@@ -14,13 +14,13 @@ pub struct Freed {
 impl Freed {
     // And one more, if it was held.
     fn with(self, answer: Result<CellCounts, Refusal>) -> Self {
-        match answer {
-            Ok(CellCounts { branches, entries }) => Freed {
-                editions: answer::count(self.editions),
-                branches: std::num::wrapping_add_u64(self.branches, branches),
-                entries: std::num::wrapping_add_u64(self.entries, entries),
-            },
-            Err(_) => self,
+        let Ok(CellCounts { branches, entries }) = answer else {
+            return self;
+        };
+        Freed {
+            editions: self.editions.saturating_add(1),
+            branches: self.branches.wrapping_add(branches),
+            entries: self.entries.wrapping_add(entries),
         }
     }
 
@@ -33,12 +33,21 @@ impl Freed {
     }
 }
 
-// The editions of so many slots, all but one, from the lowest on or from the highest down.
-// A flag: it is read in one expression, and an iterator as a parameter would have more to require.
-fn drop_others(a: &mut [u64], slots: u64, kept: u64, down: bool) -> Freed {
+// The end at which the drops begin.
+#[derive(Clone, Copy, Debug, PartialEq, Eq)]
+pub enum First {
+    Lowest,
+    Highest,
+}
+
+// The editions of so many slots, all but one.
+fn drop_others(a: &mut [u64], slots: u64, kept: u64, first: First) -> Freed {
     let mut freed = Freed::default();
     for i in 0..slots {
-        let edition = if down { slots - 1 - i } else { i };
+        let edition = match first {
+            First::Lowest => i,
+            First::Highest => slots - 1 - i,
+        };
         freed = freed.drop(a, edition, kept);
     }
     freed
@@ -61,18 +70,18 @@ pub fn alone(
     a: &mut [u64],
     slots: u64,
     kept: u64,
-    down: bool,
+    first: First,
 ) -> io::Result<Freed> {
     let mut before = [0u64; FULL];
     let mut behind = [0u64; FULL];
     answer::say_counted(rt, shelf::list(a, kept, 0, &mut before))?;
-    print::decimal(rt, b" entries, sum ", sum(&before))?;
-    let freed = drop_others(a, slots, kept, down);
+    print!(rt; " entries, sum {}", sum(&before))?;
+    let freed = drop_others(a, slots, kept, first);
     let _ = shelf::list(a, kept, 0, &mut behind);
     if lent::is_same(&before, &behind) {
-        print::say(rt, b", listed as before")?;
+        print!(rt; ", listed as before")?;
     } else {
-        print::say(rt, b", LISTED OTHERWISE")?;
+        print!(rt; ", LISTED OTHERWISE")?;
     }
     Ok(freed)
 }

@@ -1,28 +1,35 @@
 //! The rounds, at degrees 4, 16 and 64.
 use crate::fill::Run;
+use crate::kept::First;
 use crate::{fill, kept};
 use shown::answer;
 use std::io;
 
 fn say_run(rt: &impl Print, a: &[u64], run: Run) -> io::Result<()> {
-    let ended = run.ended.unwrap_or(0);
+    let ended = run.ended.map_or(0, |why| why.number());
     print!(rt;
         ": updates {}, absent {}, then no. {ended}",
         run.made, run.absent
     )?;
-    answer::say_use(rt, b"; in use", a)
+    answer::say_use(rt, "; in use", a)?;
+    println!(rt;)
 }
 
 // An edition is kept, and the others are dropped: from the lowest on in odd rounds, from the highest down in even ones.
 fn empty(rt: &impl Print, a: &mut [u64], slots: u64, kept: u64, round: u64) -> io::Result<()> {
-    print!(rt; "\n    keeps edition {kept}:")?;
-    let freed = kept::alone(rt, a, slots, kept, round % 2 == 0)?;
+    print!(rt; "    keeps edition {kept}:")?;
+    let first = if round % 2 == 0 {
+        First::Highest
+    } else {
+        First::Lowest
+    };
+    let freed = kept::alone(rt, a, slots, kept, first)?;
     print!(rt;
         "; drops {}, frees {} {}",
         freed.editions, freed.branches, freed.entries
     )?;
-    answer::say_use(rt, b"; in use", a)?;
-    print::say(rt, b"\n")
+    answer::say_use(rt, "; in use", a)?;
+    println!(rt;)
 }
 
 // A round on an edition, with keys from one on; `keep` says which of its editions is kept. Answers that edition and the next
@@ -37,7 +44,7 @@ fn round<F: Fn(Run) -> u64>(
 ) -> io::Result<Run>
     requires { F.IsAlwaysCallable keep }
 {
-    print::decimal(rt, b"  round ", n)?;
+    print!(rt; "  round {n}")?;
     let run = fill::fill(a, before);
     say_run(rt, a, run)?;
     let kept = keep(run);
@@ -57,19 +64,18 @@ fn three(rt: &impl Print, a: &mut [u64], slots: u64) -> io::Result<u64> {
 
 // The edition that is left is dropped too.
 fn end(rt: &impl Print, a: &mut [u64], kept: u64) -> io::Result<()> {
-    print::decimal(rt, b"  edition ", kept)?;
+    print!(rt; "  edition {kept}")?;
     answer::say_dropped(rt, shelf::drop(a, kept))?;
-    answer::say_use(rt, b"; in use", a)?;
-    print::say(rt, b"\n")
+    answer::say_use(rt, "; in use", a)?;
+    println!(rt;)
 }
 
 // The first round comes out as it did.
 fn again(rt: &impl Print, a: &mut [u64]) -> io::Result<()> {
     let _ = shelf::new_edition(a);
-    print::say(rt, b"  round 1 again")?;
+    print!(rt; "  round 1 again")?;
     let run = fill::fill(a, Run::new(0, 1));
-    say_run(rt, a, run)?;
-    print::say(rt, b"\n")
+    say_run(rt, a, run)
 }
 
 fn say_degree(
@@ -99,7 +105,12 @@ fn at_degree(
 
 pub fn show(rt: &impl Print) -> io::Result<()> {
     let mut a = [0u64; 1684];
-    at_degree(rt, &mut a, 4, 100, 40, 50)?;
-    at_degree(rt, &mut a, 16, 44, 30, 46)?;
-    at_degree(rt, &mut a, 64, 22, 20, 26)
+    for (degree, branches, entries, slots) in [
+        (4, 100, 40, 50),
+        (16, 44, 30, 46),
+        (64, 22, 20, 26),
+    ] {
+        at_degree(rt, &mut a, degree, branches, entries, slots)?;
+    }
+    Ok(())
 }

@@ -16,7 +16,7 @@ ghost use Rattle.cells.specs.Mirrors.{unshare_words};
 ghost use Rattle.releases.specs.Releases.{is_last, less_words, chain_from, RowGoesOn, at_place, release_from, is_shared};
 
 use cells::{fill, free, shares};
-use layout::{Shape, table, words};
+use layout::{Kind, Shape, table, words};
 use lookup::links;
 
 // One word fewer names a cell. Answers whether that was the last; then nothing is written, and the cell is to be given back.
@@ -75,7 +75,13 @@ fn is_shared(a: &[u64], z: Shape, t: &[u64], left: u64, r: u64) -> bool
     let count = table::word(a, z, t, r, words::COUNT);
     let mark = table::word(a, z, t, r, words::MARK);
     let here = left > 0 && mark == z.depths - left;
-    count > 1 && (r % 2 == 1 || here)
+    if count <= 1 {
+        return false;
+    }
+    match Kind::of(r) {
+        Kind::Branch => here,
+        Kind::Entry => true,
+    }
 }
 
 // One word fewer names a cell that some word names.

@@ -1,6 +1,7 @@
 //! An update shown: the cells that it took, what is in use behind it, its root, and every edition up to its own.
 ghost use Rattle.std.specs.Prelude.{◌<◌};
 
+use layout::Kind;
 use shelf::{Refusal, Updated};
 use shown::entries::Entry;
 use shown::{answer, lent, listed};
@@ -9,18 +10,17 @@ use std::io;
 // No arena here has more slots.
 const SLOTS: u64 = 16;
 
-// What the root of an edition is. A slot has three words, from word 12 on; the second names the root, an entry by an odd
-// number.
+// What the root of an edition is. A slot has three words, from word 12 on; the second names the root.
 fn say_root(rt: &impl Print, a: &[u64], edition: u64) -> io::Result<()>
     requires { edition < 16 }
 {
     let root = lent::word(a, 13 + 3 * edition as usize);
     if root == 0 {
-        print::say(rt, b"; root 0\n")
-    } else if root % 2 == 0 {
-        print::say(rt, b"; root a branch\n")
-    } else {
-        print::say(rt, b"; root an entry\n")
+        return println!(rt; "; root 0");
+    }
+    match Kind::of(root) {
+        Kind::Branch => println!(rt; "; root a branch"),
+        Kind::Entry => println!(rt; "; root an entry"),
     }
 }
 
@@ -35,28 +35,22 @@ fn editions_to(rt: &impl Print, a: &[u64], edition: u64) -> io::Result<()> {
 pub fn update(
     rt: &impl Print,
     a: &[u64],
-    label: &[u8],
+    label: &str,
     answer: Result<Updated, Refusal>,
 ) -> io::Result<()> {
-    print::say(rt, label)?;
+    print!(rt; "{label}")?;
     answer::say_updated(rt, answer)?;
-    answer::say_use(rt, b"; in use", a)?;
+    answer::say_use(rt, "; in use", a)?;
     match answer {
-        Ok(
-            Updated {
-                edition,
-                branches: _,
-                entries: _,
-            },
-        ) => editions_to(rt, a, edition),
-        Err(_) => print::say(rt, b"\n"),
+        Ok(made) => editions_to(rt, a, made.edition),
+        Err(_) => println!(rt;),
     }
 }
 
 pub fn remove(
     rt: &impl Print,
     a: &mut [u64],
-    label: &[u8],
+    label: &str,
     edition: u64,
     hash: u64,
     key: u64,
@@ -68,7 +62,7 @@ pub fn remove(
 pub fn insert(
     rt: &impl Print,
     a: &mut [u64],
-    label: &[u8],
+    label: &str,
     edition: u64,
     e: Entry,
 ) -> io::Result<()> {

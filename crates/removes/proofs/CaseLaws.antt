@@ -1,9 +1,6 @@
 -- What remove does, case by case, on any words: what its reading pass finds, by the search; and what it leaves where it is given a
 -- slot. So it is an update (grants).
-use Prim.Native.Nat.{ℕ}
-use mathlib.Core.Path.{◌≡◌, sym, ◌∙◌, subst}
-use mathlib.Core.Bool.{true, false}
-use mathlib.Core.List.{List}
+use Rattle.std.proofs.Common.{◌≡◌, ℕ, true, false, List, Some, None, sym, ◌∙◌, subst}
 use Rattle.cases.proofs.Cases.{split}
 use Rattle.layout.specs.declared.Shape.{Shape}
 use Rattle.layout.specs.Columns.{State, columns}
@@ -18,42 +15,41 @@ use Rattle.grants.specs.Rooms.{held_to, hold_to}
 use Rattle.grants.proofs.CaseLaws.{Update}
 use Rattle.removes.specs.declared.Cut.{Cut}
 use Rattle.removes.specs.Calls.{cutting, absent, cut_of, lacks, chain_to, take_to, cut_to}
-use Rattle.std.specs.Prelude.{Some, None}
 
 -- what a call knows once it has read, and what it does with a slot: by what was found, and by what the reading pass finds
 abbrev pub removing_by : Shape → List ℕ → ℕ → Cut → Update
-removing_by z a h p = record { wanted = p.found; branches = p.branches; entries = p.before; does = cut_to z a h p }
+removing_by z a h p = record { wanted = p.found; branches = p.branches; entries = p.tail.count; does = cut_to z a h p }
 
 abbrev pub removing : List ℕ → ℕ → ℕ → ℕ → Shape → Update
 removing a e h k z = removing_by z a h (cut_of z a e h k)
 
--- THE READING PASS
+-- THE READING PASS: where the path of a hash ends below an edition's root, and what is found there
+abbrev pub end_of : Shape → List ℕ → ℕ → ℕ → ℕ
+end_of z a e h = path_end z (columns z a) h z.depths 0 ((columns z a).root e)
+
 module _ (z : Shape) (a : List ℕ) (e h k : ℕ) where
   abbrev σ : State
   σ = columns z a
 
-  abbrev end : ℕ
-  end = path_end z σ h z.depths 0 (σ.root e)
-
-  pub cut_there : (q : ℕ) → hit_from z σ h k (longest z) end ≡ Some q
-      → cut_of z a e h k ≡ cutting z σ (σ.root e) (σ.size e) h end q
+  pub cut_there : (q : ℕ) → hit_from z σ h k (longest z) (end_of z a e h) ≡ Some q
+      → cut_of z a e h k ≡ cutting z σ (σ.root e) (σ.size e) h (end_of z a e h) q
   unfolding cut_of
   cut_there q y = rw y
 
-  pub cut_absent : hit_from z σ h k (longest z) end ≡ None → cut_of z a e h k ≡ absent
+  pub cut_absent : hit_from z σ h k (longest z) (end_of z a e h) ≡ None → cut_of z a e h k ≡ absent
   unfolding cut_of
   cut_absent y = rw y
 
 -- THE WRITING: the words after the chain, and after the path above it
 module _ (z : Shape) (a : List ℕ) (h : ℕ) (p : Cut) where
   unfoldable pub chain_wrote : Wrote
-  chain_wrote = taken_from z p.before p.front p.rest a
+  chain_wrote = taken_from z p.tail.count p.tail.from p.tail.rest a
 
   unfoldable pub root_wrote : Wrote
   root_wrote = prune_from z h chain_wrote.at z.depths 0 p.root chain_wrote.words
 
 module _ (z : Shape) (a : List ℕ) (h : ℕ) (p : Cut) (s : ℕ) where
-  pub cut_none : p.empty ≡ true → cut_to z a h p s ≡ held_to z s p.size p.branches p.before 0 a
+  pub cut_none : p.empty ≡ true → cut_to z a h p s ≡ held_to z s p.size p.branches p.tail.count 0 a
   unfolding cut_to
   cut_none e = rw e
 
@@ -62,25 +58,25 @@ module _ (z : Shape) (a : List ℕ) (h : ℕ) (p : Cut) (s : ℕ) where
     unfolding cut_to
     cut_some = rw some
 
-    cut_few_entries : lacks (chain_wrote z a h p).at p.before ≡ true
+    cut_few_entries : lacks (chain_wrote z a h p).at p.tail.count ≡ true
         → cut_to z a h p s ≡ leaves (refused Why.NoEntryCells) (chain_wrote z a h p).words
     unfolding chain_to chain_wrote
     cut_few_entries few = cut_some ∙ rw few
 
-    pub cut_goes : lacks (chain_wrote z a h p).at p.before ≡ false
-        → cut_to z a h p s ≡ hold_to z s p.size p.branches p.before (root_wrote z a h p)
+    pub cut_goes : lacks (chain_wrote z a h p).at p.tail.count ≡ false
+        → cut_to z a h p s ≡ hold_to z s p.size p.branches p.tail.count (root_wrote z a h p)
     unfolding chain_to chain_wrote root_wrote
     cut_goes enough = cut_some ∙ rw enough
 
   -- what holds in each of these cases holds of what is done with the slot
-  pub by_writing : (P : Outcome → Type 0) → P (held_to z s p.size p.branches p.before 0 a)
+  pub by_writing : (P : Outcome → Type 0) → P (held_to z s p.size p.branches p.tail.count 0 a)
       → P (leaves (refused Why.NoEntryCells) (chain_wrote z a h p).words)
-      → P (hold_to z s p.size p.branches p.before (root_wrote z a h p)) → P (cut_to z a h p s)
+      → P (hold_to z s p.size p.branches p.tail.count (root_wrote z a h p)) → P (cut_to z a h p s)
   by_writing P none few goes =
       split p.empty
       (λ e. is (cut_none e) none)
       (λ e.
-      split (lacks (chain_wrote z a h p).at p.before)
+      split (lacks (chain_wrote z a h p).at p.tail.count)
       (λ y. is (cut_few_entries e y) few)
       (λ y. is (cut_goes e y) goes))
     where

@@ -1,9 +1,6 @@
 -- What the writing of a removal comes to, whether a root is left or nothing: the map without the key in the slot, with the counts
 -- that the reading pass says.
-use Prim.Native.Nat.{ℕ, ◌≤◌, ◌<◌}
-use mathlib.Core.Path.{◌≡◌, ◌∙◌}
-use mathlib.Core.List.{List}
-use lib.ListN.{length}
+use Rattle.std.proofs.Common.{◌≡◌, ℕ, ◌<◌, ◌≤◌, List, length, ◌∙◌}
 use Rattle.segments.specs.Segments.{segment}
 use Rattle.layout.specs.declared.Shape.{Shape}
 use Rattle.layout.specs.Layout.{Lent}
@@ -26,11 +23,11 @@ use Rattle.removes.proofs.WriteLaws.{none_Rooted, chain_made, root-Made, some_Ro
 
 module _ {z : Shape} {a : List ℕ} {free : ℕ → List ℕ} (l : Lent z a) (I : Local z (columns z a) (λ r. 0) free) (h k v : ℕ)
     (p : Cut) (m : Map ℕ) (good : Good z m) (g : get (segment z.bits) z.depths h k m ≡ got v) (r : ℕ)
-    (shown : ShowsMap (columns z a) m r) (room_0 : p.branches ≤ length (free 0)) (room_1 : p.before ≤ length (free 1)) where
+    (shown : ShowsMap (columns z a) m r) (room_0 : p.branches ≤ length (free 0)) (room_1 : p.tail.count ≤ length (free 1)) where
   pub cut_writes : (m' : Map ℕ) → Cuts z a (names_of_branches free p.branches) (names_of_entries free) h k m m' r p
       → (s : ℕ) → s < z.slots → ((columns z a).held s ≡ 1 → ⊥)
-      → (b : List ℕ) × (cut_to z a h p s ≡ leaves (done_taking s p.branches p.before) b)
-      × Written z a free p.branches p.before s m' b
+      → (b : List ℕ) × (cut_to z a h p s ≡ leaves (done_taking s p.branches p.tail.count) b)
+      × Written z a free p.branches p.tail.count s m' b
   cut_writes empty P s ls away =
       (_, cut_none z a h p s P.empty_is, slot_means s p.size (none_Rooted l I h k v p m good g r shown room_0 room_1 P) l P.size_is ls away)
   cut_writes (root n) P s ls away = (

@@ -1,9 +1,6 @@
 -- Document 01's table for remove on a sound arena, with the definition's own counts: 8 and 9 exactly where "more needed than free", 8
 -- before 9, and 6 exactly where the key is not there. The names that stand in the counts play no part.
-use Prim.Native.Nat.{ℕ}
-use mathlib.Core.Path.{◌≡◌, sym, ◌∙◌}
-use mathlib.Core.Bool.{false}
-use mathlib.Core.List.{List}
+use Rattle.std.proofs.Common.{◌≡◌, ℕ, false, List, sym, ◌∙◌}
 use Rattle.layout.specs.declared.Shape.{Shape}
 use Rattle.layout.specs.Header.{Header}
 use Rattle.trie.specs.Trie.{Map}

@@ -1,10 +1,6 @@
 -- Which number remove gives on any words: document 01's table for 4, 5, 6 and 7, where nothing is written. Else the number is 0, 8 or
 -- 9; the rows of these are exact on a sound arena (ExactLaws.antt).
-use Prim.Native.Nat.{ℕ, ◌≤◌, ◌<◌}
-use mathlib.Core.Path.{◌≡◌, refl}
-use mathlib.Core.Bool.{false}
-use mathlib.Core.List.{List}
-use mathlib.Core.Logic.{◌↔◌}
+use Rattle.std.proofs.Common.{◌≡◌, ℕ, ◌<◌, ◌≤◌, false, ◌↔◌, List, refl}
 use Rattle.layout.specs.declared.Shape.{Shape}
 use Rattle.layout.specs.Header.{Header}
 use Rattle.replies.proofs.Tables.{Gives, HeaderNumbered, Unaltered, number, read}
@@ -48,5 +44,5 @@ module _ (a : List ℕ) (e h k : ℕ) where
     remove_few_branches = update_few_branches a e (removing a e h k) answers (λ y held. not_found y) z right
 
     pub remove_few_entries : Goes z a e (NotFound a e h k z) → (cut_of z a e h k).branches ≤ free_cell_count z a 0
-        → free_cell_count z a 1 < (cut_of z a e h k).before → Gives a (remove_of a e h k) 9
+        → free_cell_count z a 1 < (cut_of z a e h k).tail.count → Gives a (remove_of a e h k) 9
     remove_few_entries = update_few_entries a e (removing a e h k) answers (λ y held. not_found y) z right

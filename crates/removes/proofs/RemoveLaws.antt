@@ -1,9 +1,7 @@
 -- What remove leaves is what its definition says, and from that alone follows what it means: on a sound arena a refusal leaves the
 -- words as they are, and else the lowest free slot holds the edition with the entry taken out, all others stay as they are, and the
 -- arena stays sound.
-use Prim.Native.Nat.{ℕ}
-use mathlib.Core.Path.{◌≡◌, sym, ap, ◌∙◌}
-use mathlib.Core.List.{List}
+use Rattle.std.proofs.Common.{◌≡◌, ℕ, List, Result, sym, ap, ◌∙◌}
 use Rattle.segments.specs.Segments.{segment}
 use Rattle.layout.proofs.HeaderLaws.{Header-Lent}
 use Rattle.trie.specs.Built.{removed}
@@ -18,7 +16,6 @@ use Rattle.removes.proofs.CaseLaws.{removing}
 use Rattle.removes.proofs.InsideLaws.{cut_Kept}
 use Rattle.removes.proofs.SlotLaws.{cut_slot}
 use Rattle.removes.proofs.RoomLaws.{removal_Does}
-use Rattle.std.specs.Prelude.{Result}
 use Rattle.replies.specs.declared.Refusal.{Refusal}
 use Rattle.replies.specs.declared.Updated.{Updated}
 

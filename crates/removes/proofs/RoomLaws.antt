@@ -1,11 +1,6 @@
 -- On a sound arena the reading pass says exactly what a removal from an edition takes: where there are a free slot and as many cells,
 -- the writing is done to its end, and it comes to the edition with the entry taken out.
-use Prim.Native.Nat.{ℕ, ◌<◌, ◌≤◌}
-use mathlib.Core.Path.{◌≡◌, refl, sym, ◌∙◌}
-use mathlib.Core.Bool.{true}
-use mathlib.Core.List.{List}
-use native.Mathlib.Omega.{arith}
-use lib.ListN.{length}
+use Rattle.std.proofs.Common.{◌≡◌, ℕ, ◌<◌, ◌≤◌, true, List, length, sym, refl, ◌∙◌, arith}
 use Rattle.segments.specs.Segments.{segment}
 use Rattle.layout.specs.declared.Shape.{Shape}
 use Rattle.layout.specs.Layout.{Lent}
@@ -62,12 +57,12 @@ module _ (a : List ℕ) (S : Sound a) (z : Shape) (head : Header a z) (e h k : �
     pub removal_branches : (b f : ℕ → ℕ) → (cut_of z a e h k).branches ≡ (takes z b f h k m).branches
     removal_branches b f = (sound_cut b f).1.branches_is
 
-    pub removal_entries : (b f : ℕ → ℕ) → (cut_of z a e h k).before ≡ (takes z b f h k m).entries
+    pub removal_entries : (b f : ℕ → ℕ) → (cut_of z a e h k).tail.count ≡ (takes z b f h k m).entries
     removal_entries b f = (sound_cut b f).1.before_is
 
     -- the writing, where there are the cells and a slot is free
     pub removal_Does : {free : ℕ → List ℕ} → Local z (columns z a) (λ r. 0) free
-        → (cut_of z a e h k).branches ≤ length (free 0) → (cut_of z a e h k).before ≤ length (free 1)
+        → (cut_of z a e h k).branches ≤ length (free 0) → (cut_of z a e h k).tail.count ≤ length (free 1)
         → (s : ℕ) → s < z.slots → (word_of_slot z a s 0 ≡ 1 → ⊥) → Does z a free (remove_step h k z) m (removing a e h k z) s
     removal_Does {free} local room_0 room_1 s ls away =
         let p : Cut = cut_of z a e h k in

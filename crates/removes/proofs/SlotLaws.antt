@@ -1,7 +1,5 @@
 -- Wherever remove is done with a slot, on any words, that slot is its answer.
-use Prim.Native.Nat.{ℕ}
-use mathlib.Core.Path.{◌≡◌}
-use mathlib.Core.List.{List}
+use Rattle.std.proofs.Common.{◌≡◌, ℕ, List}
 use Rattle.layout.specs.declared.Shape.{Shape}
 use Rattle.replies.specs.declared.Refusal.TheVariants as Why
 use Rattle.replies.specs.Answers.{done_taking}

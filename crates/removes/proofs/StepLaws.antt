@@ -1,28 +1,19 @@
 -- The steps of remove, as the definitions have them.
-use Prim.Native.Nat.{ℕ, ◌-◌}
-use mathlib.Core.Path.{◌≡◌, ap, ◌∙◌}
-use mathlib.Core.Bool.{Bool, true, false}
-use mathlib.Core.List.{List}
-use native.Mathlib.Omega.{arith}
-use lib.Dec.{ltb}
-use borrow.Author.Tests.{eq-eqb, ne_eqb}
+use Rattle.std.proofs.Common.{◌≡◌, ℕ, ◌-◌, Bool, true, List, ap, ◌∙◌, arith}
 use Rattle.layout.specs.declared.Shape.{Shape}
 use Rattle.layout.specs.Columns.{State}
-use Rattle.cells.specs.Mirrors.{Wrote, wrote}
-use Rattle.chains.specs.Chains.{length_at, taken_from}
+use Rattle.cells.specs.Mirrors.{Wrote}
+use Rattle.chains.specs.Chains.{length_at}
 use Rattle.prunes.specs.declared.Left.{Left}
 use Rattle.prunes.specs.Prunes.{left_from, prune_from}
 use Rattle.replies.specs.declared.Refusal.TheVariants as Why
-use Rattle.replies.specs.Answers.{refused}
-use Rattle.replies.specs.Outcomes.{Outcome, leaves}
-use Rattle.removes.specs.declared.Cut.{Cut}
-use Rattle.removes.specs.Calls.{left_branches, is_none_left, cutting, pruned_to, lacks, chain_to, take_to}
+use Rattle.removes.specs.Calls.{left_branches, is_none_left, cutting}
 
 -- THE READING PASS
 pub cut_is : (z : Shape) (σ : State) (root size h front q l f : ℕ) (left : Left) (s m n r b : ℕ) (y : Bool) → l ≡ length_at z σ front
     → f ≡ l - 1 → left ≡ left_from z σ h f z.depths (z.depths - z.depths) root → s ≡ size - 1 → m ≡ length_at z σ q → n ≡ l - m
     → r ≡ σ.kid q 0 → b ≡ left_branches left → y ≡ is_none_left left
-    → record { root = root; size = s; front = front; before = n; rest = r; branches = b; empty = y; found = true }
+    → record { root = root; size = s; tail = record { count = n; from = front; rest = r }; branches = b; empty = y; found = true }
     ≡ cutting z σ root size h front q
 unfolding cutting
 cut_is z σ root size h front q l f left s m n r b y el ef eleft es em en er eb ey =
@@ -37,23 +28,3 @@ cut_is z σ root size h front q l f left s m n r b y el ef eleft es em en er eb 
 pub path_is : (z : Shape) (h leaf root : ℕ) (v : Wrote) (w : List ℕ)
     → v ≡ prune_from z h leaf z.depths (z.depths - z.depths) root w → v ≡ prune_from z h leaf z.depths 0 root w
 path_is z h leaf root v w e = let q : z.depths - z.depths ≡ 0 = omega arith in rw q at e
-
--- THE CHAIN
-module _ (leaf before : ℕ) where
-  pub lacks_by : leaf ≡ 0 → ltb 0 before ≡ lacks leaf before
-  unfolding lacks
-  lacks_by e = rw (eq-eqb leaf 0 e)
-
-  pub lacks_not : (leaf ≡ 0 → ⊥) → false ≡ lacks leaf before
-  unfolding lacks
-  lacks_not ne = rw (ne_eqb leaf 0 ne)
-
-module _ (z : Shape) (a : List ℕ) (h : ℕ) (p : Cut) (s x : ℕ) (w : List ℕ)
-    (ex : wrote x w ≡ taken_from z p.before p.front p.rest a) where
-  pub chain_lacks : lacks x p.before ≡ true → leaves (refused Why.NoEntryCells) w ≡ take_to z a h p s
-  unfolding chain_to
-  chain_lacks y = rw (← ex, y)
-
-  pub chain_goes : (o : Outcome) → lacks x p.before ≡ false → o ≡ pruned_to z h p s x w → o ≡ take_to z a h p s
-  unfolding chain_to
-  chain_goes o y q = rw (← ex, y) q

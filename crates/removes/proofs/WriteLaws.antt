@@ -1,12 +1,6 @@
 -- What the writing of a removal comes to on an arena in the local form, where its reading pass says what the trie's remove takes and
 -- makes and as many cells are free: what is left in the free slot, what lived still there, and no other slot written.
-use Prim.Native.Nat.{ℕ, ◌+◌, ◌≤◌, ◌<◌}
-use mathlib.Core.Path.{◌≡◌, refl, sym, ap, ◌∙◌, subst}
-use mathlib.Core.Bool.{false}
-use mathlib.Core.List.{List, [], ◌∷◌, ◌++◌}
-use native.Mathlib.Omega.{arith}
-use borrow.Author.Tests.{ne_eqb}
-use lib.ListN.{length}
+use Rattle.std.proofs.Common.{◌≡◌, ℕ, ◌+◌, ◌<◌, ◌≤◌, false, List, [], ◌∷◌, ◌++◌, length, sym, refl, ap, ◌∙◌, subst, arith, ne_eqb}
 use Rattle.counts.specs.Counts.{ind}
 use Rattle.counts.proofs.CountLaws.{ind_other}
 use Rattle.segments.specs.Segments.{segment}
@@ -98,7 +92,7 @@ module _ {z : Shape} {a : List ℕ} {free : ℕ → List ℕ} (l : Lent z a) (I 
 -- WHAT IT COMES TO
 module _ {z : Shape} {a : List ℕ} {free : ℕ → List ℕ} (l : Lent z a) (I : Local z (columns z a) (λ r. 0) free) (h k v : ℕ)
     (p : Cut) (m : Map ℕ) (good : Good z m) (g : get (segment z.bits) z.depths h k m ≡ got v) (r : ℕ)
-    (shown : ShowsMap (columns z a) m r) (room_0 : p.branches ≤ length (free 0)) (room_1 : p.before ≤ length (free 1)) where
+    (shown : ShowsMap (columns z a) m r) (room_0 : p.branches ≤ length (free 0)) (room_1 : p.tail.count ≤ length (free 1)) where
   abbrev bn : ℕ → ℕ
   bn = names_of_branches free p.branches
 
@@ -109,12 +103,12 @@ module _ {z : Shape} {a : List ℕ} {free : ℕ → List ℕ} (l : Lent z a) (I 
   seg = segment z.bits
 
   -- nothing is left
-  pub none_Rooted : Cuts z a bn fn h k m empty r p → Rooted z a free p.branches p.before empty (wrote 0 a)
+  pub none_Rooted : Cuts z a bn fn h k m empty r p → Rooted z a free p.branches p.tail.count empty (wrote 0 a)
   unfolding ShowsMap
   none_Rooted P =
       let some = (row_is_Right z l.allowed).some_depths in
       let no_branches : p.branches ≡ 0 = P.branches_is ∙ empty_takes_no_branch seg Word64 bn fn h k z.depths m P.makes in
-      let no_entries : p.before ≡ 0 = P.before_is ∙ empty_takes_no_entry seg Word64 bn fn h k z.depths m some good P.makes in
+      let no_entries : p.tail.count ≡ 0 = P.before_is ∙ empty_takes_no_entry seg Word64 bn fn h k z.depths m some good P.makes in
       rw (no_branches, no_entries)
       (record {
         kept = kept_refl z a;
@@ -127,14 +121,14 @@ module _ {z : Shape} {a : List ℕ} {free : ℕ → List ℕ} (l : Lent z a) (I 
 
   -- a root is left
   module _ (n : Node ℕ) (P : Cuts z a bn fn h k m (root n) r p) where
-    pub chain_made : Chained z a free p.before (list_remove_first fn 0 h k (chain_of seg z.depths h m)) (chain_wrote z a h p)
+    pub chain_made : Chained z a free p.tail.count (list_remove_first fn 0 h k (chain_of seg z.depths h m)) (chain_wrote z a h p)
     unfolding chain_wrote
     chain_made =
         rw P.leaf_is
-        (take_chained l I p.before p.front p.rest P.at P.copied P.shared P.front_shown P.copied_length
+        (take_chained l I p.tail.count p.tail.from p.tail.rest P.at P.copied P.shared P.front_shown P.copied_length
         P.shared_shown room_1)
 
-    pub root-Made : Made z (chain_wrote z a h p).words (left (taking 1 p.before) free) (taking 0 p.branches) (root_wrote z a h p)
+    pub root-Made : Made z (chain_wrote z a h p).words (left (taking 1 p.tail.count) free) (taking 0 p.branches) (root_wrote z a h p)
         × ShowsMap (columns z (root_wrote z a h p).words) (root n) (root_wrote z a h p).at
     unfolding root_wrote
     root-Made =
@@ -144,5 +138,5 @@ module _ {z : Shape} {a : List ℕ} {free : ℕ → List ℕ} (l : Lent z a) (I 
         (map_kept C.grow m p.root (subst (λ (q : ℕ). ShowsMap (columns z a) m q) (sym P.root_is) shown))
         C.shows P.branches_is room_0 (λ u lu. ap bn (omega arith))
 
-    pub some_Rooted : Rooted z a free p.branches p.before (root n) (root_wrote z a h p)
+    pub some_Rooted : Rooted z a free p.branches p.tail.count (root n) (root_wrote z a h p)
     some_Rooted = let C = chain_made in path_Rooted C.kept C.grow C.slots root-Made.0 root-Made.1

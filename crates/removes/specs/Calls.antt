@@ -33,9 +33,7 @@ cutting z σ root size h front q =
     record {
       root = root;
       size = size - 1;
-      front = front;
-      before = length_at z σ front - length_at z σ q;
-      rest = σ.kid q 0;
+      tail = record { count = length_at z σ front - length_at z σ q; from = front; rest = σ.kid q 0 };
       branches = left_branches left;
       empty = is_none_left left;
       found = true;
@@ -43,7 +41,7 @@ cutting z σ root size h front q =
 
 -- or it is not there
 abbrev pub absent : Cut
-absent = record { root = 0; size = 0; front = 0; before = 0; rest = 0; branches = 0; empty = false; found = false }
+absent = record { root = 0; size = 0; tail = record { count = 0; from = 0; rest = 0 }; branches = 0; empty = false; found = false }
 
 abbrev pub cut_by : Shape → State → ℕ → ℕ → ℕ → ℕ → Option ℕ → Cut
 cut_by z σ root size h front (Some q) = cutting z σ root size h front q
@@ -58,7 +56,7 @@ cut_of z a e h k =
 
 -- WRITING. The chain without the entry, then the path above it, then the slot; "an empty result takes none".
 abbrev pub pruned_to : Shape → ℕ → Cut → ℕ → ℕ → List ℕ → Outcome
-pruned_to z h p s leaf w = hold_to z s p.size p.branches p.before (prune_from z h leaf z.depths 0 p.root w)
+pruned_to z h p s leaf w = hold_to z s p.size p.branches p.tail.count (prune_from z h leaf z.depths 0 p.root w)
 
 -- no cell could be taken for a copy
 unfoldable pub lacks : ℕ → ℕ → Bool
@@ -66,22 +64,22 @@ lacks leaf before = cond (eqb leaf 0) (ltb 0 before) false
 
 unfoldable pub chain_to : Shape → ℕ → Cut → ℕ → Wrote → Outcome
 chain_to z h p s w =
-    cond (lacks w.at p.before) (leaves (refused Why.NoEntryCells) w.words) (pruned_to z h p s w.at w.words)
+    cond (lacks w.at p.tail.count) (leaves (refused Why.NoEntryCells) w.words) (pruned_to z h p s w.at w.words)
 
 abbrev pub take_to : Shape → List ℕ → ℕ → Cut → ℕ → Outcome
-take_to z a h p s = chain_to z h p s (taken_from z p.before p.front p.rest a)
+take_to z a h p s = chain_to z h p s (taken_from z p.tail.count p.tail.from p.tail.rest a)
 
 unfoldable pub cut_to : Shape → List ℕ → ℕ → Cut → ℕ → Outcome
 cut_to z a h p s =
-    cond p.empty (held_to z s p.size p.branches p.before 0 a) (take_to z a h p s)
+    cond p.empty (held_to z s p.size p.branches p.tail.count 0 a) (take_to z a h p s)
 
 -- where there is room
 abbrev pub cutting_to : Shape → List ℕ → ℕ → Cut → Outcome
-cutting_to z a h p = on_room a (room_of z a p.branches p.before) (cut_to z a h p)
+cutting_to z a h p = on_room a (room_of z a p.branches p.tail.count) (cut_to z a h p)
 
 -- the call, by its plan. 6: "remove: key not there"
 abbrev pub remove_by : Shape → List ℕ → ℕ → ℕ → Cut → Outcome
-remove_by z a e h p = update_in z a e p.found p.branches p.before (cut_to z a h p)
+remove_by z a e h p = update_in z a e p.found p.branches p.tail.count (cut_to z a h p)
 
 abbrev pub remove_in : Shape → List ℕ → ℕ → ℕ → ℕ → Outcome
 remove_in z a e h k = remove_by z a e h (cut_of z a e h k)

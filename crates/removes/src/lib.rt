@@ -15,21 +15,20 @@ ghost use Rattle.replies.specs.Outcomes.{leaves};
 ghost use Rattle.removes.specs.Calls.{left_branches, is_none_left, cutting, absent, cut_of, lacks, pruned_to, take_to, cut_to, cutting_to, remove_in};
 
 use cells::{shares, slots};
+use chains::Tail;
 use layout::{Shape, words};
 use lookup::links;
 use prunes::Left;
 use replies::{Refusal, Updated};
 
-// What the reading pass finds: the edition's root, the size of the new edition; the chain at the end of the path, how many of
-// its entries stand before the one that is removed, and what stands behind it; how many branches will be left on the path;
-// whether nothing at all will be left; and whether the key is there.
+// What the reading pass finds: the edition's root, the size of the new edition; what will be left of the chain at the end of the
+// path, namely copies of the entries before the one that is removed and what stands behind it; how many branches will be left on
+// the path; whether nothing at all will be left; and whether the key is there.
 #[derive(Clone, Copy)]
 pub struct Cut {
     pub root: u64,
     pub size: u64,
-    pub front: u64,
-    pub before: u64,
-    pub rest: u64,
+    pub tail: Tail,
     pub branches: u64,
     pub empty: bool,
     pub found: bool,
@@ -56,6 +55,7 @@ fn none_left(left: Left) -> bool
 }
 
 // The key stands at `hit`, in the chain from `front` on.
+#[tactic(auto, using(crate::proofs::StepLaws::cut_is))]
 fn plan_cut(a: &[u64], z: Shape, root: u64, size: u64, hash: u64, front: u64, hit: u64) -> Cut
     requires { Lent z a.now }
     ensures { result ≡ cutting z (columns z a.now) root size hash front hit }
@@ -65,9 +65,11 @@ fn plan_cut(a: &[u64], z: Shape, root: u64, size: u64, hash: u64, front: u64, hi
     Cut {
         root,
         size: shares::fewer(size),
-        front,
-        before: shares::less(length, chains::length(a, z, hit)),
-        rest: links::kid(a, z, hit, 0),
+        tail: Tail {
+            count: shares::less(length, chains::length(a, z, hit)),
+            from: front,
+            rest: links::kid(a, z, hit, 0),
+        },
         branches: branches_left(left),
         empty: none_left(left),
         found: true,
@@ -81,9 +83,11 @@ fn nothing() -> Cut
     Cut {
         root: 0,
         size: 0,
-        front: 0,
-        before: 0,
-        rest: 0,
+        tail: Tail {
+            count: 0,
+            from: 0,
+            rest: 0,
+        },
         branches: 0,
         empty: false,
         found: false,
@@ -91,6 +95,7 @@ fn nothing() -> Cut
 }
 
 // The reading pass below an edition that is held.
+#[tactic(auto, using(lookup::proofs::FindLaws::survey_is), unfolding(crate::specs::Calls::cut_of))]
 fn survey(a: &[u64], z: Shape, edition: u64, hash: u64, key: u64) -> Cut
     requires lent { Lent z a.now }
     requires in_slots { edition < z.slots }
@@ -106,6 +111,7 @@ fn survey(a: &[u64], z: Shape, edition: u64, hash: u64, key: u64) -> Cut
 }
 
 // The path above the chain that is left, then the slot.
+#[tactic(auto, using(cells::proofs::KeptLaws::lent_same, crate::proofs::StepLaws::path_is))]
 fn write_path(
     a: &mut [u64],
     z: Shape,
@@ -119,10 +125,12 @@ fn write_path(
     ensures { leaves (update_answer result) a.new ≡ pruned_to z hash found slot leaf a.old }
 {
     let root = prunes::prune(&mut *a, z, hash, leaf, z.depths, found.root);
-    grants::hold_root(a, z, slot, root, found.size, found.branches, found.before)
+    let entries = found.tail.count;
+    grants::hold_root(a, z, slot, root, found.size, found.branches, entries)
 }
 
 // A chain is empty where nothing is left of it; where entries are to be copied, it is because no cell could be taken.
+#[tactic(auto, unfolding(crate::specs::Calls::lacks))]
 fn is_lacking(leaf: u64, before: u64) -> bool
     ensures { result ≡ lacks leaf before }
 {
@@ -131,6 +139,7 @@ fn is_lacking(leaf: u64, before: u64) -> bool
 
 // The chain without the entry, then the path above it. On a sound arena there are the cells that were counted; on any other a
 // free chain may break off, and then what was written stands, but no slot is taken.
+#[tactic(auto, using(cells::proofs::KeptLaws::lent_same), unfolding(crate::specs::Calls::chain_to))]
 fn write_chain(
     a: &mut [u64],
     z: Shape,
@@ -142,21 +151,22 @@ fn write_chain(
     requires in_slots { slot < z.slots }
     ensures { leaves (update_answer result) a.new ≡ take_to z a.old hash found slot }
 {
-    let leaf = chains::take_from(&mut *a, z, found.before, found.front, found.rest);
-    if is_lacking(leaf, found.before) {
+    let leaf = chains::take_from(&mut *a, z, found.tail);
+    if is_lacking(leaf, found.tail.count) {
         return Err(Refusal::NoEntryCells);
     }
     write_path(a, z, hash, found, slot, leaf)
 }
 
 // The new edition in a slot. Where nothing is left it is empty, and takes no cell.
+#[tactic(auto, unfolding(crate::specs::Calls::cut_to))]
 fn write(a: &mut [u64], z: Shape, hash: u64, found: Cut, slot: u64) -> Result<Updated, Refusal>
     requires lent { Lent z a.old }
     requires in_slots { slot < z.slots }
     ensures { leaves (update_answer result) a.new ≡ cut_to z a.old hash found slot }
 {
     if found.empty {
-        return grants::hold_edition(a, z, slot, 0, found.size, found.branches, found.before);
+        return grants::hold_edition(a, z, slot, 0, found.size, found.branches, found.tail.count);
     }
     write_chain(a, z, hash, found, slot)
 }
@@ -167,10 +177,11 @@ fn write_found(a: &mut [u64], z: Shape, hash: u64, found: Cut) -> Result<Updated
     requires { Lent z a.old }
     ensures { leaves (update_answer result) a.new ≡ cutting_to z a.old hash found }
 {
-    let slot = grants::find_room(&*a, z, found.branches, found.before)?;
+    let slot = grants::find_room(&*a, z, found.branches, found.tail.count)?;
     write(a, z, hash, found, slot)
 }
 
+#[tactic(auto, using(cells::proofs::SlotLaws::held_in), unfolding(grants::specs::Rooms::update_in))]
 fn remove_held(
     a: &mut [u64],
     z: Shape,
@@ -191,6 +202,7 @@ fn remove_held(
 }
 
 // An edition with an entry taken out, in the lowest free slot.
+#[tactic(auto, unfolding(grants::specs::Rooms::update_in))]
 pub fn remove(
     a: &mut [u64],
     z: Shape,

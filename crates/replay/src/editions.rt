@@ -5,7 +5,7 @@ use segments::Index;
 
 // What was read so far. `listing` is how many entries of a listing the next lines have still to show, `last` the hash of
 // the one before them, if there is one, and `place` where the next stands in what the shelf has listed.
-#[derive(Clone, Copy)]
+#[derive(Clone, Copy, Debug, PartialEq, Eq)]
 pub struct Tally {
     degree: u64,
     pub entries: u64,

@@ -4,7 +4,7 @@ use segments::Index;
 use sparse_array::Refused;
 
 // What was replayed so far: the bitmap of the array, and which of its words the next line shows.
-#[derive(Clone, Copy)]
+#[derive(Clone, Copy, Debug, Default, PartialEq, Eq)]
 pub struct Tally {
     bitmap: u64,
     place: usize,
@@ -13,7 +13,7 @@ pub struct Tally {
 
 // An answer that may be missing, as the stored answers write it: 1 and the answer, or two zeros. A refusal, which the
 // crate has not, is 2.
-#[derive(Clone, Copy, PartialEq, Eq)]
+#[derive(Clone, Copy, Debug, PartialEq, Eq)]
 struct Written(u64, u64);
 
 impl Written {
@@ -35,14 +35,6 @@ impl Written {
 }
 
 impl Tally {
-    pub fn new() -> Self {
-        Tally {
-            bitmap: 0,
-            place: 0,
-            indexes: 0,
-        }
-    }
-
     fn index(&mut self, got: Index, answer: Written) -> bool {
         self.indexes = self.indexes.saturating_add(1);
         Written::index(got) == answer
@@ -80,7 +72,7 @@ impl Tally {
         if self.place != sparse_array::size(bitmap) {
             return false;
         }
-        let [first, second, third, fourth, _, _, _, _] = line.numbers;
+        let [first, second, third, fourth, ..] = line.numbers;
         match line.letter {
             b'p' => {
                 let changed = sparse_array::set(bitmap, words, first, second);

@@ -18,7 +18,7 @@ use std::io::{self, Read};
 use std::rt::Files;
 
 // What a file is about, and how far it was replayed.
-#[derive(Clone, Copy)]
+#[derive(Clone, Copy, Debug, PartialEq, Eq)]
 enum File {
     Leaves(leaves::Tally),
     Editions(editions::Tally),
@@ -36,8 +36,8 @@ impl File {
 
 fn show(rt: &impl Print, file: File, score: Score) -> io::Result<()> {
     match file {
-        File::Leaves(tally) => print::decimal(rt, b": index_from_hash ", tally.indexes)?,
-        File::Editions(tally) => print::decimal(rt, b": entries listed ", tally.entries)?,
+        File::Leaves(tally) => print!(rt; ": index_from_hash {}", tally.indexes)?,
+        File::Editions(tally) => print!(rt; ": entries listed {}", tally.entries)?,
     }
     score.show(rt)
 }
@@ -50,7 +50,7 @@ fn replay(
     out: &mut [u64],
     mut file: File,
 ) -> io::Result<Score> {
-    let mut score = Score::new();
+    let mut score = Score::default();
     let mut at = 0;
     // A while: the line that was read says where the next one begins, so no range is known beforehand.
     while at < text.len() {
@@ -90,14 +90,14 @@ fn replay_file(
     let mut text = [0u8; 65536];
     let mut out = [0u64; 1024];
     let length = read(rt, name, &mut text)?;
-    print::say(rt, name.as_bytes())?;
+    print!(rt; "{name}")?;
     replay(rt, &text[..length], words, &mut out, file)
 }
 
 // A sparse array has at most 64 words.
 fn replay_leaves(rt: &(impl Print + Files), name: &str) -> io::Result<()> {
     let mut words = [0u64; 64];
-    replay_file(rt, name, &mut words, File::Leaves(leaves::Tally::new()))?;
+    replay_file(rt, name, &mut words, File::Leaves(leaves::Tally::default()))?;
     Ok(())
 }
 
@@ -113,28 +113,27 @@ fn replay_editions(
     Ok(before.and(replay_file(rt, name, &mut words, File::Editions(tally))?))
 }
 
-// All calls, at each degree.
-fn replay_degrees(rt: &(impl Print + Files), before: Score) -> io::Result<Score> {
-    let mut all = replay_editions(rt, before, "degree_02", 2)?;
-    all = replay_editions(rt, all, "degree_04", 4)?;
-    all = replay_editions(rt, all, "degree_08", 8)?;
-    all = replay_editions(rt, all, "degree_16", 16)?;
-    all = replay_editions(rt, all, "degree_32", 32)?;
-    replay_editions(rt, all, "degree_64", 64)
-}
-
-// The calls that only make editions, at each degree.
-fn replay_grows(rt: &(impl Print + Files), before: Score) -> io::Result<Score> {
-    let mut all = replay_editions(rt, before, "grows_02", 2)?;
-    all = replay_editions(rt, all, "grows_04", 4)?;
-    all = replay_editions(rt, all, "grows_08", 8)?;
-    all = replay_editions(rt, all, "grows_16", 16)?;
-    all = replay_editions(rt, all, "grows_32", 32)?;
-    replay_editions(rt, all, "grows_64", 64)
-}
+// All calls, at each degree, and then the calls that only make editions.
+const EDITIONS: [(&str, u64); 12] = [
+    ("degree_02", 2),
+    ("degree_04", 4),
+    ("degree_08", 8),
+    ("degree_16", 16),
+    ("degree_32", 32),
+    ("degree_64", 64),
+    ("grows_02", 2),
+    ("grows_04", 4),
+    ("grows_08", 8),
+    ("grows_16", 16),
+    ("grows_32", 32),
+    ("grows_64", 64),
+];
 
 fn main(rt: HostRuntime) -> io::Result<()> {
     replay_leaves(&rt, "leaves")?;
-    let degrees = replay_degrees(&rt, Score::new())?;
-    replay_grows(&rt, degrees)?.show_all(&rt)
+    let mut all = Score::default();
+    for (name, degree) in EDITIONS {
+        all = replay_editions(&rt, all, name, degree)?;
+    }
+    all.show_all(&rt)
 }

@@ -4,7 +4,7 @@
 use answers::Line;
 use std::io;
 
-#[derive(Clone, Copy)]
+#[derive(Clone, Copy, Debug, Default, PartialEq, Eq)]
 pub struct Score {
     lines: u64,
     calls: u64,
@@ -14,15 +14,6 @@ pub struct Score {
 }
 
 impl Score {
-    pub fn new() -> Self {
-        Score {
-            lines: 0,
-            calls: 0,
-            wrong: 0,
-            total: None,
-        }
-    }
-
     fn see(&mut self, right: bool) {
         if !right {
             self.wrong = self.wrong.saturating_add(1);
@@ -54,19 +45,21 @@ impl Score {
     }
 
     pub fn show(self, rt: &impl Print) -> io::Result<()> {
-        print::decimal(rt, b", calls ", self.calls)?;
-        print::decimal(rt, b", lines ", self.lines)?;
-        print::decimal(rt, b", wrong ", self.wrong)?;
+        print!(rt;
+            ", calls {}, lines {}, wrong {}",
+            self.calls, self.lines, self.wrong
+        )?;
         if self.total != Some(self.calls) {
-            print::say(rt, b", not whole")?;
+            print!(rt; ", not whole")?;
         }
-        print::say(rt, b"\n")
+        println!(rt;)
     }
 
     // All files on editions.
     pub fn show_all(self, rt: &impl Print) -> io::Result<()> {
-        print::decimal(rt, b"replayed on the shelf: ", self.calls)?;
-        print::decimal(rt, b" calls, ", self.wrong)?;
-        print::say(rt, b" wrong\n")
+        println!(rt;
+            "replayed on the shelf: {} calls, {} wrong",
+            self.calls, self.wrong
+        )
     }
 }

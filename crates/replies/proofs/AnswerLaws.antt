@@ -3,19 +3,12 @@
 use Rattle.layout.specs.declared.Shape.{Shape}
 use Rattle.cells.specs.Mirrors.{Wrote}
 use Rattle.replies.specs.Outcomes.{Outcome, leaves, on_header, on_slot, on_wrote}
-use Prim.Native.Nat.{ℕ, ◌<◌}
-use mathlib.Core.Path.{◌≡◌, refl, sym, ap, ◌∙◌}
-use mathlib.Core.List.{List, [], ◌∷◌}
-use mathlib.Core.Bool.{Bool, true, false}
-use lib.ListN.{get_or}
+use Rattle.std.proofs.Common.{◌≡◌, ℕ, ◌<◌, Bool, true, false, List, [], ◌∷◌, get_or, Some, None, Ok, Err, Option, Result, sym, refl, ap, ◌∙◌, arith, eq-eqb, ne_eqb}
 use Rattle.replies.specs.declared.Updated.{Updated}
 use Rattle.replies.specs.declared.CellCounts.{CellCounts}
-use native.Mathlib.Omega.{arith}
-use borrow.Author.Tests.{eq-eqb, ne_eqb}
 use Rattle.replies.specs.declared.Refusal.{Refusal}
 use Rattle.replies.specs.declared.Refusal.TheVariants.{BadDegree, BadSizes, SliceTooShort, Damaged, NoSuchEdition, Absent, NoSlot, NoBranchCells, NoEntryCells, OutputTooShort, BeyondTheEnd, WorkTooShort}
 use Rattle.replies.specs.Answers.{Answer, answer, number_of, refused, done, done_taking, no_values, one_value, truth_value, update_values, cell_values, answered, unit_answer, number_answer, truth_answer, update_answer, cells_answer}
-use Rattle.std.specs.Prelude.{Option, Some, None, Result, Ok, Err}
 
 number_some : (r : Refusal) → 0 < number_of r
 number_some BadDegree = omega arith
@@ -101,6 +94,13 @@ header_Right y x f z e = rw e
 pub header_Wrong : {A : Type 0} (y : Option Shape) (x : A) (f : Shape → A) → y ≡ None → on_header y x f ≡ x
 unfolding on_header
 header_Wrong y x f e = rw e
+
+-- and so of a call that read the header first, as o
+pub read_Right : {A : Type 0} (o y : Option Shape) (x : A) (f : Shape → A) (z : Shape) (r : A) → o ≡ y → o ≡ Some z → r ≡ f z → r ≡ on_header y x f
+read_Right o y x f z r p e q = q ∙ sym (header_Right y x f z (sym p ∙ e))
+
+pub read_Wrong : {A : Type 0} (o y : Option Shape) (x : A) (f : Shape → A) → o ≡ y → o ≡ None → x ≡ on_header y x f
+read_Wrong o y x f p e = sym (header_Wrong y x f (sym p ∙ e))
 
 -- THE CASES OF A SLOT
 pub slot_at : (y : Option ℕ) (x : Outcome) (f : ℕ → Outcome) (s : ℕ) → y ≡ Some s → on_slot y x f ≡ f s

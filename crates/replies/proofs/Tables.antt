@@ -116,21 +116,6 @@ module _ {A : Type 0} (a b : List ℕ) (see : A → Outcome) (When : Shape → �
       → ((z : Shape) → Numbered b (When z) (see (f z))) → HeaderNumbered a b When (see (on_header (header_of a) x f))
   header_numbered wrong no_4 numbers = right_Numbered wrong no_4 (λ z h. numbers z)
 
--- the same table in other words
-pub renumbered : {a b : List ℕ} {When Then : Shape → ℕ → Type 0} {o : Outcome}
-    → ((z : Shape) → Header a z → (k : ℕ) → When z k ↔ Then z k) → HeaderNumbered a b When o → HeaderNumbered a b Then o
-renumbered same N =
-    record {
-      damaged = N.damaged;
-      right = N.right;
-      exactly =
-          λ z h k.
-          let w = same z h k in
-          let e = N.exactly z h k in
-          (λ q. w.0 (e.0 q), λ t. e.1 (w.1 t));
-      refusal = N.refusal;
-    }
-
 -- 5: "number not below S, or not held"
 abbrev pub Held : Shape → List ℕ → ℕ → Type 0
 Held z a e = (e < z.slots) × (word_of_slot z a e 0 ≡ 1)

@@ -40,49 +40,48 @@ fn longer(key: u64) -> Row {
 
 fn prepare(a: &mut [u64], row: Row) {
     let last = row.steps;
-    steps::before(a, answer::count(last));
+    steps::before(a, last.saturating_add(1));
     if let Some(e) = row.more {
         let _ = shelf::insert(a, last, e.hash, e.key, e.value);
     }
 }
 
 // The largest arena has 53 branch cells, 8 entry cells and 8 slots.
-fn within(rt: &impl Print, label: &[u8], row: Row, branches: u64, entries: u64) -> io::Result<()> {
+fn within(rt: &impl Print, label: &str, row: Row, branches: u64, entries: u64) -> io::Result<()> {
     let mut a = [0u64; 1091];
     let _ = shelf::format(&mut a, 16, branches, entries, 8);
     prepare(&mut a, row);
     let mut copy = [0u64; 1091];
     lent::copy(&a, &mut copy);
-    print::say(rt, label)?;
+    print!(rt; "{label}")?;
     answer::say_updated(rt, shelf::remove(&mut a, row.edition, row.hash, row.key))?;
-    answer::say_use(rt, b"; in use", &a)?;
+    answer::say_use(rt, "; in use", &a)?;
     lent::say_kept(rt, &a, &copy)
 }
 
 fn with_these(
     rt: &impl Print,
-    label: &[u8],
+    label: &str,
     row: Row,
     branches: u64,
     entries: u64,
 ) -> io::Result<()> {
-    print::say(rt, label)?;
-    println!(rt; " needs {branches} {entries}")?;
-    within(rt, b"    these", row, branches, entries)
+    println!(rt; "{label} needs {branches} {entries}")?;
+    within(rt, "    these", row, branches, entries)
 }
 
 // For a removal that takes branch cells.
-fn and_fewer(rt: &impl Print, label: &[u8], row: Row, branches: u64, entries: u64) -> io::Result<()>
+fn and_fewer(rt: &impl Print, label: &str, row: Row, branches: u64, entries: u64) -> io::Result<()>
     requires { 1 ≤ branches }
 {
     with_these(rt, label, row, branches, entries)?;
-    within(rt, b"    a branch cell fewer", row, branches - 1, entries)
+    within(rt, "    a branch cell fewer", row, branches - 1, entries)
 }
 
 // For a removal that takes cells of both kinds.
 fn and_fewer_of_both(
     rt: &impl Print,
-    label: &[u8],
+    label: &str,
     row: Row,
     branches: u64,
     entries: u64,
@@ -90,18 +89,18 @@ fn and_fewer_of_both(
     requires { (1 ≤ branches) × (1 ≤ entries) }
 {
     and_fewer(rt, label, row, branches, entries)?;
-    within(rt, b"    an entry cell fewer", row, branches, entries - 1)?;
-    within(rt, b"    one of each fewer", row, branches - 1, entries - 1)
+    within(rt, "    an entry cell fewer", row, branches, entries - 1)?;
+    within(rt, "    one of each fewer", row, branches - 1, entries - 1)
 }
 
 // Where a removal takes none of a kind, none of the kind is free.
 pub fn show(rt: &impl Print) -> io::Result<()> {
-    print::say(rt, b"Exactly the cells needed, and fewer (degree 16)\n")?;
-    with_these(rt, b"  A out of K1", behind(1, 0x26, 1), 1, 1)?;
-    with_these(rt, b"  K9", behind(2, 0x26, 1), 3, 2)?;
-    and_fewer_of_both(rt, b"  K7", behind(5, entries::CHAIN, 4), 22, 6)?;
-    and_fewer(rt, b"  K8", behind(5, entries::CHAIN, 5), 22, 5)?;
-    and_fewer(rt, b"  D out of K6", behind(6, entries::CHAIN, 4), 38, 7)?;
-    and_fewer(rt, b"  key 6 out of K5 and key 6", longer(6), 53, 6)?;
-    and_fewer_of_both(rt, b"  D out of K5 and key 6", longer(4), 53, 8)
+    println!(rt; "Exactly the cells needed, and fewer (degree 16)")?;
+    with_these(rt, "  A out of K1", behind(1, 0x26, 1), 1, 1)?;
+    with_these(rt, "  K9", behind(2, 0x26, 1), 3, 2)?;
+    and_fewer_of_both(rt, "  K7", behind(5, entries::CHAIN, 4), 22, 6)?;
+    and_fewer(rt, "  K8", behind(5, entries::CHAIN, 5), 22, 5)?;
+    and_fewer(rt, "  D out of K6", behind(6, entries::CHAIN, 4), 38, 7)?;
+    and_fewer(rt, "  key 6 out of K5 and key 6", longer(6), 53, 6)?;
+    and_fewer_of_both(rt, "  D out of K5 and key 6", longer(4), 53, 8)
 }

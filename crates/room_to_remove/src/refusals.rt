@@ -9,29 +9,29 @@ const WORDS: usize = 462;
 fn remove(
     rt: &impl Print,
     a: &mut [u64],
-    label: &[u8],
+    label: &str,
     edition: u64,
     hash: u64,
     key: u64,
 ) -> io::Result<()> {
     let number = answer::number(shelf::remove(a, edition, hash, key));
-    print::decimal(rt, label, number)
+    print!(rt; "{label}{number}")
 }
 
 // A slot that is free, and ones that are not there.
 fn no_such_edition(rt: &impl Print, a: &mut [u64]) -> io::Result<()> {
-    remove(rt, a, b"  key 9 out of 6, not held: ", 6, 0x26, 9)?;
-    remove(rt, a, b"; out of 7: ", 7, 0x26, 9)?;
-    remove(rt, a, b"; out of 2^64 - 1: ", u64::MAX, 0x26, 9)
+    remove(rt, a, "  key 9 out of 6, not held: ", 6, 0x26, 9)?;
+    remove(rt, a, "; out of 7: ", 7, 0x26, 9)?;
+    remove(rt, a, "; out of 2^64 - 1: ", u64::MAX, 0x26, 9)
 }
 
 // A hash that is nowhere, another key under a hash, a key under another hash; and the empty edition.
 fn absent(rt: &impl Print, a: &mut [u64]) -> io::Result<()> {
-    remove(rt, a, b"  hash 27 out of 5: ", 5, 0x27, 1)?;
-    remove(rt, a, b"; key 2 under A's hash: ", 5, 0x26, 2)?;
-    remove(rt, a, b"; key 6 under D's hash: ", 5, entries::CHAIN, 6)?;
-    remove(rt, a, b"; D's key under hash 42: ", 5, 0x42, 4)?;
-    remove(rt, a, b"; A out of 0: ", 0, 0x26, 1)
+    remove(rt, a, "  hash 27 out of 5: ", 5, 0x27, 1)?;
+    remove(rt, a, "; key 2 under A's hash: ", 5, 0x26, 2)?;
+    remove(rt, a, "; key 6 under D's hash: ", 5, entries::CHAIN, 6)?;
+    remove(rt, a, "; D's key under hash 42: ", 5, 0x42, 4)?;
+    remove(rt, a, "; A out of 0: ", 0, 0x26, 1)
 }
 
 // D needs a cell of each kind and A out of 1 needs none.
@@ -39,12 +39,12 @@ fn no_slot(rt: &impl Print, a: &mut [u64]) -> io::Result<()> {
     remove(
         rt,
         a,
-        b"  all slots held, D out of 5: ",
+        "  all slots held, D out of 5: ",
         5,
         entries::CHAIN,
         4,
     )?;
-    remove(rt, a, b"; A out of 1: ", 1, 0x26, 1)
+    remove(rt, a, "; A out of 1: ", 1, 0x26, 1)
 }
 
 fn with_a_slot(rt: &impl Print, a: &mut [u64]) -> io::Result<()> {
@@ -57,8 +57,8 @@ fn with_a_slot(rt: &impl Print, a: &mut [u64]) -> io::Result<()> {
 }
 
 fn without_a_slot(rt: &impl Print, a: &mut [u64]) -> io::Result<()> {
-    answer::say_made(rt, b"  a share takes the last slot:", shelf::share(a, 5))?;
-    print::say(rt, b"\n")?;
+    answer::say_made(rt, "  a share takes the last slot:", shelf::share(a, 5))?;
+    println!(rt;)?;
     let mut copy = [0u64; WORDS];
     lent::copy(a, &mut copy);
     absent(rt, a)?;
@@ -68,29 +68,26 @@ fn without_a_slot(rt: &impl Print, a: &mut [u64]) -> io::Result<()> {
 }
 
 // Once an edition is dropped, D out of K5 is refused for another reason.
-fn dropped(rt: &impl Print, a: &mut [u64], label: &[u8], edition: u64) -> io::Result<()> {
-    print::say(rt, label)?;
+fn dropped(rt: &impl Print, a: &mut [u64], label: &str, edition: u64) -> io::Result<()> {
+    print!(rt; "{label}")?;
     answer::say_dropped(rt, shelf::drop(a, edition))?;
     let mut copy = [0u64; WORDS];
     lent::copy(a, &mut copy);
-    remove(rt, a, b"; D out of 5: ", 5, entries::CHAIN, 4)?;
+    remove(rt, a, "; D out of 5: ", 5, entries::CHAIN, 4)?;
     lent::say_kept(rt, a, &copy)
 }
 
 // The share has no cell of its own; K1 has its root.
 pub fn show(rt: &impl Print) -> io::Result<()> {
-    print::say(
-        rt,
-        b"Refusals (degree 16, K1 to K5, all 21 and 5 cells in use, 7 slots)\n",
-    )?;
+    println!(rt; "Refusals (degree 16, K1 to K5, all 21 and 5 cells in use, 7 slots)")?;
     let mut a = [0u64; WORDS];
     let _ = shelf::format(&mut a, 16, 21, 5, 7);
     steps::before(&mut a, 6);
     with_a_slot(rt, &mut a)?;
     without_a_slot(rt, &mut a)?;
-    dropped(rt, &mut a, b"  the share dropped:", 6)?;
-    dropped(rt, &mut a, b"  K1 dropped:", 1)?;
-    print::say(rt, b"  E out of 5")?;
+    dropped(rt, &mut a, "  the share dropped:", 6)?;
+    dropped(rt, &mut a, "  K1 dropped:", 1)?;
+    print!(rt; "  E out of 5")?;
     answer::say_updated(rt, shelf::remove(&mut a, 5, entries::CHAIN, 5))?;
-    print::say(rt, b"\n")
+    println!(rt;)
 }

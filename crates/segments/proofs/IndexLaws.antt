@@ -1,17 +1,11 @@
 -- What `index_of` answers, by the columns of a degree's row: below D the segment, from D on that the hash is exhausted. The row stands in the
 -- table, where a depth is below D exactly if its shift is below 64.
 -- Assumes nothing.
-use Prim.Native.Nat.{ℕ, ◌*◌, ◌≤◌, ◌<◌}
-use mathlib.Core.Path.{◌≡◌}
-use mathlib.Core.Bool.{true, false}
-use native.Mathlib.Omega.{arith}
-use native.Mathlib.Nat.{le_trans, mul-le-mul_right}
-use borrow.Author.Tests.{leb-true, leb-false}
+use Rattle.std.proofs.Common.{◌≡◌, ℕ, ◌*◌, ◌<◌, ◌≤◌, true, false, None, le_trans, mul-le-mul_right, arith, leb-false, leb-true}
 use Rattle.cases.proofs.Cases.{split}
 use Rattle.segments.specs.declared.Index.TheVariants.{At, Exhausted, NoSuchDegree}
 use Rattle.segments.specs.Segments.{row, segment, row_of, exhausted, index_in, index_of}
 use Rattle.segments.proofs.TableLaws.{Right, row_Right, depths_cover, below_depths, row_of_in}
-use Rattle.std.specs.Prelude.{None}
 use Rattle.segments.specs.Segments.{found}
 
 module _ (g bits depths last : ℕ) (is : row_of g ≡ found bits depths last) where

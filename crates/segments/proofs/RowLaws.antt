@@ -1,25 +1,9 @@
 -- The row of a degree by the zeros at the end of its binary digits: a degree of the table is a power of two, and its exponent the
 -- row's bits.
-use Prim.Native.Nat.{ℕ, zero, suc, ◌*◌, ◌/◌, ◌%◌, ◌^◌, ◌≤◌, ◌<◌}
-use native.Mathlib.Omega.{arith}
-use mathlib.Core.Path.{◌≡◌, refl, ap, ◌∙◌, sym}
-use mathlib.Core.Logic.{◌⊎◌, inl, inr}
-use borrow.Author.Tests.{ne_eqb}
+use Rattle.std.proofs.Common.{◌≡◌, ℕ, zero, suc, ◌*◌, ◌/◌, ◌%◌, ◌^◌, ◌<◌, ◌≤◌, ◌⊎◌, None, sym, refl, ap, ◌∙◌, inl, inr, arith, ne_eqb}
 use lib.Count.{count_trailing_zeros}
 use Rattle.segments.specs.Segments.{table, find, row_of}
-use Rattle.std.specs.Prelude.{None}
 use Rattle.segments.specs.Segments.{found}
-
--- a shift of 1 by a row's bits is a power of two, and no digit of it is lost
-pub one_shifted : (b : ℕ) → b ≤ 6 → 1 * 2 ^ b % 18446744073709551616 ≡ 2 ^ b
-one_shifted zero l = refl
-one_shifted (suc zero) l = refl
-one_shifted (suc (suc zero)) l = refl
-one_shifted (suc (suc (suc zero))) l = refl
-one_shifted (suc (suc (suc (suc zero)))) l = refl
-one_shifted (suc (suc (suc (suc (suc zero))))) l = refl
-one_shifted (suc (suc (suc (suc (suc (suc zero)))))) l = refl
-one_shifted (suc (suc (suc (suc (suc (suc (suc b))))))) l = absurd (omega arith)
 
 -- a byte of a column
 abbrev pub byte_at : ℕ → ℕ → ℕ

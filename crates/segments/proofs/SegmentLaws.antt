@@ -1,13 +1,9 @@
 -- Segments fit their branch, and a hash is determined by its segments: what stands above a depth is what stands above the next one with
 -- this depth's segment below it.
 -- Assumes nothing.
-use Prim.Native.Nat.{ℕ, zero, suc, ◌+◌, ◌-◌, ◌*◌, ◌/◌, ◌^◌, ◌≤◌, ◌<◌}
-use mathlib.Core.Path.{◌≡◌, sym, ◌∙◌, ap}
-use mathlib.Core.Logic.{◌⊎◌, inl, inr, ⊎_elim}
-use native.Mathlib.Omega.{arith}
-use native.Mathlib.Nat.{div-add-mod', div-one, div-eq_of_lt, mod-lt, mod-le, lt_of_le_of_lt, lt_of_lt_of_le, eq-or-lt_of_le, le_of_suc-le-suc}
+use Rattle.std.proofs.Common.{◌≡◌, ℕ, zero, suc, ◌+◌, ◌-◌, ◌*◌, ◌/◌, ◌^◌, ◌<◌, ◌≤◌, ◌⊎◌, sym, ap, ◌∙◌, inl, inr, ⊎_elim, lt_of_lt_of_le, le_of_suc-le-suc, lt_of_le_of_lt, mod-lt, eq-or-lt_of_le, div-add-mod', div-one, arith, pow_pos, pow_mono, shr-shr, shr_lt}
+use native.Mathlib.Nat.{div-eq_of_lt, mod-le}
 use native.Mathlib.Decide.{ℕ_discrete}
-use lib.Pow.{pow_pos, pow_mono, shr_lt, shr-shr}
 use Rattle.segments.specs.Segments.{Row, segment}
 use Rattle.segments.proofs.TableLaws.{Right, depths_cover}
 

@@ -1,17 +1,8 @@
 -- The rule that every row of the table keeps: one test, computed over the whole table, gives the facts for any row of it. The depths cover the 64
 -- bits of a hash and one depth less does not, so a depth is below D exactly if its shift is below 64.
 -- Assumes nothing.
-use Prim.Native.Nat.{ℕ, ◌+◌, ◌-◌, ◌*◌, ◌^◌, ◌≤◌, ◌<◌}
-use mathlib.Core.Path.{◌≡◌, refl, sym, ap, subst}
-use mathlib.Core.Bool.{Bool, true, false, ◌&&◌, cond}
-use mathlib.Core.List.{List, [], ◌∷◌}
-use mathlib.Core.Logic.{◌⊎◌, inl, inr, ◌↔◌}
-use native.Mathlib.Nat.{lt_of_lt_of_le, mul-le-mul_right, lt_of_mul-lt-mul_right}
-use native.Mathlib.Omega.{arith}
-use lib.Dec.{T, eqb, ltb, leb, eqb→eq, ltb→lt, leb→le}
-use borrow.Author.Tests.{eqb-true}
+use Rattle.std.proofs.Common.{◌≡◌, ℕ, ◌+◌, ◌-◌, ◌*◌, ◌^◌, ◌<◌, ◌≤◌, Bool, true, false, cond, ◌&&◌, T, eqb, ltb, leb, ◌⊎◌, ◌↔◌, List, [], ◌∷◌, Some, None, Option, sym, refl, ap, subst, inl, inr, lt_of_lt_of_le, mul-le-mul_right, lt_of_mul-lt-mul_right, arith, eqb→eq, ltb→lt, leb→le, eqb-true}
 use Rattle.segments.specs.Segments.{Row, row, table, Listed, find, row_of}
-use Rattle.std.specs.Prelude.{Option, Some, None}
 use Rattle.segments.specs.declared.DegreeRow.{DegreeRow}
 use Rattle.segments.specs.Segments.{found}
 

@@ -28,6 +28,7 @@ pub struct DegreeRow {
 }
 
 // The place of a hash among the children of a branch at some depth.
+// Three outcomes, so no `Option`.
 #[derive(Clone, Copy, Debug, PartialEq, Eq)]
 pub enum Index {
     At(u64),
@@ -72,6 +73,7 @@ pub fn degree_row(degree: u64) -> Option<DegreeRow>
 
 // The segment at a depth that exists, for the layers of the shelf that have a row in hand. The divisor is a power of
 // two, so this is a shift and a mask and no division.
+#[tactic(auto, using(std::proofs::lemmas::Nat::one_shl, std::proofs::Common::pow_pos), unfolding(crate::specs::Segments::segment))]
 pub fn segment_at(hash: u64, depth: u64, bits: u64) -> u64
     requires { (depth * bits < 64) × (bits ≤ 6) }
     ensures { result ≡ segment bits depth hash }

@@ -7,7 +7,8 @@ use Prim.Native.Nat.{ℕ, zero, suc, ◌+◌, ◌≤◌, ◌<◌}
 use native.Mathlib.Omega.{arith}
 use Rattle.cases.proofs.Cases.{split, eq?}
 use Rattle.trie.specs.Cells.{ahead, before, along, branches_on, stand_before, insert_takes, left_takes, remove_takes}
-use Rattle.trie.specs.Entry.{Entry, matches, Got, absent, got, if_got}
+use Rattle.trie.specs.declared.Entry.{Entry}
+use Rattle.trie.specs.Entry.{matches, Got, absent, got, if_got}
 use Rattle.trie.specs.Trie.{branch, Item, leaf, single, chain, Node, Kids, none, kid, empty, root, Map, Found, missing, found, child, put, item, copied, find, get_node, list_remove_first, push_front, insert_node, is_empty, is_single, settle, compress, remove_node, remove, updated, not_there, tidy, insert}
 use Rattle.trie.proofs.ChainLaws.{copied_hit, copied_miss}
 use Rattle.trie.proofs.CopyLaws.{ahead_miss}

@@ -18,6 +18,7 @@ ghost use Rattle.looks.specs.Terms.{Sizes, Uses, Gets, Lists, Compares};
 
 use layout::header;
 pub use replies::{CellCounts, Refusal, Updated};
+use trie::Entry;
 
 // Makes an arena of the words: all cells free, no edition held. Words beyond the total stay as they are.
 pub fn format(
@@ -66,7 +67,7 @@ pub fn insert(
     let Some(z) = header::read(&*a) else {
         return Err(Refusal::Damaged);
     };
-    updates::insert(a, z, edition, hash, key, value)
+    updates::insert(a, z, edition, Entry { hash, key, value })
 }
 
 // An edition with another value for a key that it has; else as an insert.
@@ -82,7 +83,7 @@ pub fn change(
     let Some(z) = header::read(&*a) else {
         return Err(Refusal::Damaged);
     };
-    updates::change(a, z, edition, hash, key, value)
+    updates::change(a, z, edition, Entry { hash, key, value })
 }
 
 // An edition with an entry taken out, in the lowest free slot; the old edition stays as it is. Answers the new edition, and how

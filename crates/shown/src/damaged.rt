@@ -1,56 +1,61 @@
-//! Updates and drops on an arena with a wrong header, and on one that is cut short: each answers 4. They have another fault
-//! too, no such edition, but 4 comes first.
+//! Calls on an arena with a wrong header, and on one that is cut short: each answers 4. They have another fault too, but 4
+//! comes first.
 use crate::{answer, lent};
 use std::io;
 
-// One more for each of the four calls that answers 4.
-fn fours_of(a: &mut [u64], fours: u64) -> u64 {
-    let inserted = answer::number(shelf::insert(a, u64::MAX, 0x26, 1, 10));
-    let changed = answer::number(shelf::change(a, u64::MAX, 0x26, 1, 10));
-    let removed = answer::number(shelf::remove(a, u64::MAX, 0x26, 1));
-    let dropped = answer::number(shelf::drop(a, u64::MAX));
-    let updates = answer::count_4(answer::count_4(fours, inserted), changed);
-    answer::count_4(answer::count_4(updates, removed), dropped)
+// Updates and drops, of no such edition: how many of the four calls answer 4.
+fn fours(a: &mut [u64]) -> u64 {
+    let damaged = [
+        answer::is_damaged(shelf::insert(&mut *a, u64::MAX, 0x26, 1, 10)),
+        answer::is_damaged(shelf::change(&mut *a, u64::MAX, 0x26, 1, 10)),
+        answer::is_damaged(shelf::remove(&mut *a, u64::MAX, 0x26, 1)),
+        answer::is_damaged(shelf::drop(&mut *a, u64::MAX)),
+    ];
+    count(damaged)
 }
 
-// The calls with another word at a place, which is put back.
-fn with(a: &mut [u64], at: usize, word: u64, fours: u64) -> u64 {
-    let before = lent::word(a, at);
-    lent::put(a, at, word);
-    let n = fours_of(a, fours);
-    lent::put(a, at, before);
-    n
+// How many of four calls answer 4.
+pub fn count(damaged: [bool; 4]) -> u64 {
+    damaged.iter().filter(|four| **four).count() as u64
 }
 
-// Words 0 to 7, each with a number that it never has.
-fn wrong_words(a: &mut [u64]) -> u64 {
-    let mut fours = 0;
+// The calls with each of words 0 to 7 made wrong, which is put back: how often they answer 4.
+pub fn wrong_words<W: Fn(u64) -> u64, F: Fn(&mut [u64]) -> u64>(
+    a: &mut [u64],
+    wrong: W,
+    calls: F,
+) -> u64
+    requires wrong_is_callable { W.IsAlwaysCallable wrong }
+    requires calls_is_callable { F.IsAlwaysCallable calls }
+{
+    let mut fours = 0u64;
     for at in 0..8 {
-        fours = with(a, at, 77, fours);
+        let before = lent::word(a, at);
+        lent::put(a, at, wrong(before));
+        fours = fours.saturating_add(calls(&mut *a));
+        lent::put(a, at, before);
     }
     fours
 }
 
-// The calls on the first n words.
-fn cut_to(a: &mut [u64], n: usize, fours: u64) -> u64 {
-    let Some(part) = a.get_mut(..n) else {
-        return fours;
-    };
-    fours_of(part, fours)
-}
-
-// No word, one word less than a header, and one less than the arena.
-fn cut(a: &mut [u64]) -> u64 {
-    let mut fours = 0;
+// The calls on no word, on one word less than a header, and on one less than the arena: how often they answer 4.
+pub fn cut_short<F: Fn(&mut [u64]) -> u64>(a: &mut [u64], calls: F) -> u64
+    requires { F.IsAlwaysCallable calls }
+{
+    let mut fours = 0u64;
     for n in [0, 11, a.len().saturating_sub(1)] {
-        fours = cut_to(a, n, fours);
+        if let Some(part) = a.get_mut(..n) {
+            fours = fours.saturating_add(calls(part));
+        }
     }
     fours
 }
 
-// The slice has just the words of the arena.
+// The slice has just the words of the arena, whose words 0 to 7 are never 77.
 pub fn say(rt: &impl Print, a: &mut [u64]) -> io::Result<()> {
-    print::decimal(rt, b"  words 0 to 7 wrong: 4 from ", wrong_words(a))?;
-    print::decimal(rt, b" of 32 calls; cut short: 4 from ", cut(a))?;
-    print::say(rt, b" of 12 calls")
+    print!(rt;
+        "  words 0 to 7 wrong: 4 from {} of 32 calls; cut short: 4 from {} of 12 calls",
+        wrong_words(a, |_| 77, fours),
+        cut_short(a, fours)
+    )
 }

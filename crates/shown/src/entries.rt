@@ -1,14 +1,9 @@
 //! The entries of the shelf table, A to E.
 
+pub use trie::Entry;
+
 // The hash of D and E.
 pub const CHAIN: u64 = 0x7000000000000008;
-
-#[derive(Clone, Copy, Debug, PartialEq, Eq)]
-pub struct Entry {
-    pub hash: u64,
-    pub key: u64,
-    pub value: u64,
-}
 
 pub fn an_entry(hash: u64, key: u64, value: u64) -> Entry {
     Entry { hash, key, value }

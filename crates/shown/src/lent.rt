@@ -14,8 +14,8 @@ pub fn put(words: &mut [u64], at: usize, word: u64) {
     }
 }
 
-fn say(rt: &impl Print, label: &[u8], words: &[u64]) -> io::Result<()> {
-    print::say(rt, label)?;
+fn say(rt: &impl Print, label: &str, words: &[u64]) -> io::Result<()> {
+    print!(rt; "{label}")?;
     for word in words {
         print!(rt; " {word}")?;
     }
@@ -25,7 +25,7 @@ fn say(rt: &impl Print, label: &[u8], words: &[u64]) -> io::Result<()> {
 // The words from a place on and before another.
 pub fn say_part(
     rt: &impl Print,
-    label: &[u8],
+    label: &str,
     words: &[u64],
     from: usize,
     end: usize,
@@ -49,8 +49,8 @@ pub fn is_same(words: &[u64], before: &[u64]) -> bool {
 // Whether a call left every word as it was.
 pub fn say_kept(rt: &impl Print, words: &[u64], before: &[u64]) -> io::Result<()> {
     if is_same(words, before) {
-        print::say(rt, b"; no word changed\n")
+        println!(rt; "; no word changed")
     } else {
-        print::say(rt, b"; words changed\n")
+        println!(rt; "; words changed")
     }
 }

@@ -1,6 +1,6 @@
 //! What the programs that show the shelf have in common: an answer as a number or as text, editions listed, the words of an
-//! arena copied and compared, calls on a wrong header, and the entries and steps of the shelf table. A layer of the programs,
-//! on `shelf` and `print`.
+//! arena copied and compared, calls on a wrong header, and the entries and steps of the shelf table. A layer of the programs, on
+//! `shelf`.
 
 #![tactic(auto)]
 

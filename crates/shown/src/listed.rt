@@ -17,18 +17,17 @@ fn say_entries(rt: &impl Print, words: &[u64]) -> io::Result<()> {
 pub fn whole(rt: &impl Print, a: &[u64], edition: u64) -> io::Result<()> {
     let mut out = [0u64; FULL];
     let answer = shelf::list(a, edition, 0, &mut out);
-    let n = answer::entries(answer);
+    let n = answer.unwrap_or(0);
     answer::say_counted(rt, answer)?;
     if n <= 6 {
         say_entries(rt, &out[..3 * n as usize])?;
     }
-    print::say(rt, b"\n")
+    println!(rt;)
 }
 
 // The same, with the edition's number in front.
 fn numbered(rt: &impl Print, a: &[u64], edition: u64) -> io::Result<()> {
-    print::decimal(rt, b"    ", edition)?;
-    print::say(rt, b": entries")?;
+    print!(rt; "    {edition}: entries")?;
     whole(rt, a, edition)
 }
 

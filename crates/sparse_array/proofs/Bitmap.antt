@@ -1,14 +1,11 @@
 -- Laws of a bitmap's bits and of how many of them are set. A bit of an `or` or `xor` is the operation on the two bits,
 -- and a count goes up by one bit at a time, so that each law about counts is an induction over the places.
 -- Assumes nothing.
-use Prim.Native.Nat.{ℕ, zero, suc, ◌+◌, ◌-◌, ◌*◌, ◌/◌, ◌%◌, ◌^◌, ◌≤◌, ◌<◌, max}
-use mathlib.Core.Path.{◌≡◌, refl, sym, ap, ap₂, ◌∙◌}
-use mathlib.Core.Logic.{◌⊎◌, inl, inr, ⊎_elim}
-use native.Mathlib.Nat.{mod-lt, mod-eq_of_lt, div-eq_of_lt, zero-lt-suc, add_comm, add-zero, one-mul, max-le, max-eq_right, max-zero}
-use native.Mathlib.Numerals.{one-add}
-use native.Mathlib.Omega.{arith}
-use lib.Pow.{pow_pos, pow-lt, pow_mono, pow-add, mod-pow-add, split, shl-shr}
-use lib.Bits.{bit_and, bit_or, bit_xor, differ, and_mask, and_block, and_zero_r, or_shr, or_step, xor_shr, xor_step, shifted_even}
+use Rattle.std.proofs.lemmas.Nat.{one_shl}
+use Rattle.std.proofs.Common.{◌≡◌, ℕ, zero, suc, ◌+◌, ◌-◌, ◌*◌, ◌/◌, ◌%◌, ◌^◌, ◌<◌, ◌≤◌, max, ◌⊎◌, bit_and, bit_or, bit_xor, sym, refl, ap, ◌∙◌, ap₂, inl, inr, ⊎_elim, add-zero, mod-lt, mod-eq_of_lt, zero-lt-suc, add_comm, one-mul, one-add, arith, pow_pos, pow_mono, pow-add}
+use native.Mathlib.Nat.{div-eq_of_lt, max-le, max-eq_right, max-zero}
+use lib.Pow.{pow-lt, mod-pow-add, split, shl-shr}
+use lib.Bits.{differ, and_mask, and_block, and_zero_r, or_shr, or_step, xor_shr, xor_step, shifted_even}
 use lib.Count.{ones, ones_cat}
 use Rattle.sparse_array.specs.Bitmap.{bit, below, size_of}
 use Rattle.cases.proofs.Cases.{lt?}
@@ -48,9 +45,6 @@ bit_pow_other i k ne =
 
 -- ---- bits of the machine's operations
 
-pub shl_one : (i : ℕ) → i < 64 → 1 * 2 ^ i % 2 ^ 64 ≡ 2 ^ i
-shl_one i h = ap (λ (x : ℕ). x % 2 ^ 64) (one-mul (2 ^ i)) ∙ mod-eq_of_lt (pow-lt h)
-
 pub and_bit : (n k : ℕ) → bit_and n (2 ^ k) ≡ bit n k * 2 ^ k
 and_bit n k =
     ap₂ bit_and (sym (split n k)) (sym (add-zero (1 * 2 ^ k) ∙ one-mul (2 ^ k)))
@@ -61,7 +55,7 @@ and_bit n k =
 -- A mask of one bit leaves that bit alone: it is 0 just where the bit is.
 module _ (n i : ℕ) (h : i < 64) where
   masked : bit_and n (1 * 2 ^ i % 2 ^ 64) ≡ bit n i * 2 ^ i
-  masked = ap (bit_and n) (shl_one i h) ∙ and_bit n i
+  masked = ap (bit_and n) (one_shl i 64 h) ∙ and_bit n i
 
   pub mask_clear : bit_and n (1 * 2 ^ i % 2 ^ 64) ≡ 0 → bit n i ≡ 0
   mask_clear z =

@@ -4,83 +4,46 @@
 #![tactic(auto)]
 
 use flat::Flat;
-use shelf::{Refusal, Updated};
 
-// A number that document 01 has not, for what is no call.
-const NO_CALL: u64 = 99;
+// What stands in a line as the answer of a call that is not made: document 01 has no such number.
+const NOT_MADE: Flat = Flat {
+    number: 99,
+    a: 0,
+    b: 0,
+    c: 0,
+};
 
-fn no_call() -> Flat {
-    Flat {
-        number: NO_CALL,
-        a: 0,
-        b: 0,
-        c: 0,
-    }
-}
-
-// A listing with as many words of the output as the call has room for.
-fn list(a: &[u64], out: &mut [u64], edition: u64, place: u64, room: u64) -> Flat {
-    let words = room as usize;
-    if out.len() < words {
-        return no_call();
-    }
-    flat::of(shelf::list(a, edition, place, &mut out[..words]))
-}
-
-// The calls that write no word of the arena.
-fn look(a: &[u64], out: &mut [u64], letter: u8, first: u64, second: u64, third: u64) -> Flat {
-    match letter {
-        b'z' => flat::of(shelf::size(a, first)),
-        b'u' => flat::of(shelf::in_use(a)),
-        b'g' => flat::of(shelf::get(a, first, second, third)),
-        b'l' => list(a, out, first, second, third),
-        b'e' => flat::of(shelf::equal(a, first, second)),
-        _ => no_call(),
-    }
-}
-
-// The calls that write an entry or take one out.
-fn update(
-    a: &mut [u64],
-    letter: u8,
-    edition: u64,
-    hash: u64,
-    key: u64,
-    value: u64,
-) -> Result<Updated, Refusal> {
-    match letter {
-        b'i' => shelf::insert(a, edition, hash, key, value),
-        b'c' => shelf::change(a, edition, hash, key, value),
-        _ => shelf::remove(a, edition, hash, key),
-    }
-}
-
-// The calls that make an edition of none or of a whole one, and the one that lets an edition go.
-fn hold(a: &mut [u64], letter: u8, edition: u64) -> Flat {
-    match letter {
-        b'n' => flat::of(shelf::new_edition(a)),
-        b's' => flat::of(shelf::share(a, edition)),
-        _ => flat::of(shelf::drop(a, edition)),
-    }
-}
-
-// Makes a call with the arguments that stand first in its line.
-pub fn make(a: &mut [u64], out: &mut [u64], letter: u8, numbers: [u64; 8]) -> Flat {
+// Makes the call of a letter with the arguments that stand first in its line; none where no call has the letter, or where a
+// listing has room for more words than the output has.
+pub fn make(a: &mut [u64], out: &mut [u64], letter: u8, numbers: [u64; 8]) -> Option<Flat> {
     let [first, second, third, fourth, ..] = numbers;
     match letter {
-        b'f' => flat::of(shelf::format(a, first, second, third, fourth)),
-        b'n' | b's' | b'd' => hold(a, letter, first),
-        b'i' | b'c' | b'r' => flat::of(update(a, letter, first, second, third, fourth)),
-        _ => look(a, out, letter, first, second, third),
+        b'f' => Some(flat::of(shelf::format(a, first, second, third, fourth))),
+        b'n' => Some(flat::of(shelf::new_edition(a))),
+        b's' => Some(flat::of(shelf::share(a, first))),
+        b'd' => Some(flat::of(shelf::drop(a, first))),
+        b'i' => Some(flat::of(shelf::insert(a, first, second, third, fourth))),
+        b'c' => Some(flat::of(shelf::change(a, first, second, third, fourth))),
+        b'r' => Some(flat::of(shelf::remove(a, first, second, third))),
+        b'z' => Some(flat::of(shelf::size(a, first))),
+        b'u' => Some(flat::of(shelf::in_use(a))),
+        b'g' => Some(flat::of(shelf::get(a, first, second, third))),
+        b'l' => {
+            let room = out.get_mut(..third as usize)?;
+            Some(flat::of(shelf::list(a, first, second, room)))
+        }
+        b'e' => Some(flat::of(shelf::equal(a, first, second))),
+        _ => None,
     }
 }
 
 // Whether a reply is the answer of the line, which stands behind so many arguments.
-pub fn is_answer(reply: Flat, numbers: [u64; 8], arguments: usize) -> bool {
+pub fn is_answer(reply: Option<Flat>, numbers: [u64; 8], arguments: usize) -> bool {
     let Some(answer) = numbers.get(arguments..) else {
         return false;
     };
-    answer.starts_with(&[reply.number, reply.a, reply.b, reply.c])
+    let Flat { number, a, b, c } = reply.unwrap_or(NOT_MADE);
+    answer.starts_with(&[number, a, b, c])
 }
 
 // Whether the output has the entry of the line at a place.

@@ -5,15 +5,14 @@ use shown::entries;
 use std::io;
 
 fn at_degree(rt: &impl Print, degree: u64, branches: u64) -> io::Result<()> {
-    print::decimal(rt, b"Hash 0, then 2^63 (degree ", degree)?;
-    print::say(rt, b")\n")?;
+    println!(rt; "Hash 0, then 2^63 (degree {degree})")?;
     let mut a = [0u64; 837];
     let _ = shelf::format(&mut a, degree, branches, 2, 3);
     let _ = shelf::new_edition(&mut a);
     steps::insert(
         rt,
         &mut a,
-        b"  hash 0 into 0",
+        "  hash 0 into 0",
         0,
         entries::an_entry(0, 1, 1),
         2,
@@ -21,7 +20,7 @@ fn at_degree(rt: &impl Print, degree: u64, branches: u64) -> io::Result<()> {
     steps::insert(
         rt,
         &mut a,
-        b"  hash 2^63 into 1",
+        "  hash 2^63 into 1",
         1,
         entries::an_entry(0x8000000000000000, 1, 2),
         3,

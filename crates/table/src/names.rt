@@ -22,16 +22,16 @@ fn named(a: &[u64], from: usize, end: usize, width: usize, times: u64) -> u64
 fn say_kind(
     rt: &impl Print,
     a: &[u64],
-    label: &[u8],
+    label: &str,
     from: usize,
     end: usize,
     width: usize,
 ) -> io::Result<()>
     requires { (1 ≤ width) × (width ≤ 19) × (end ≤ 8192) }
 {
-    print::say(rt, label)?;
+    print!(rt; "{label}")?;
     for times in 0..14 {
-        print::decimal(rt, b" ", named(a, from, end, width, times))?;
+        print!(rt; " {}", named(a, from, end, width, times))?;
     }
     Ok(())
 }
@@ -49,11 +49,11 @@ pub fn say(
     say_kind(
         rt,
         a,
-        b"  named 0 to 13 times: branch cells",
+        "  named 0 to 13 times: branch cells",
         branches,
         entries,
         19,
     )?;
-    say_kind(rt, a, b"; entry cells", entries, end, 6)?;
-    print::say(rt, b"\n")
+    say_kind(rt, a, "; entry cells", entries, end, 6)?;
+    println!(rt;)
 }

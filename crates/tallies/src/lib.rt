@@ -8,12 +8,12 @@
 
 ghost use Rattle.std.specs.Prelude.{◌≡◌, true, ◌^◌, ◌≤◌, ◌<◌, length};
 ghost use Rattle.counts.specs.Counts.{ind, sum_to, times};
-ghost use Rattle.layout.specs.Layout.{reference, cells_of, names, Allowed, Lent};
+ghost use Rattle.layout.specs.Layout.{reference, number_of_kind, cells_of, names, Allowed, Lent};
 ghost use Rattle.layout.specs.Columns.{columns};
 ghost use Rattle.arena.specs.Local.{occ};
 ghost use Rattle.tallies.specs.Tallies.{work_words, work_place, Works, Low, Adds, counts_of, counts_right};
 
-use layout::{Shape, words};
+use layout::{Kind, Shape, words};
 use lookup::links;
 
 // The work words of the cells are 0.
@@ -26,15 +26,15 @@ pub fn clear(work: &mut [u64], z: Shape)
 }
 
 // The place of a cell's work word.
+#[tactic(auto, using(crate::proofs::WorkLaws::work_branch, crate::proofs::WorkLaws::work_entry))]
 fn work_at(z: Shape, r: u64) -> usize
     requires allowed { Allowed z }
     requires is_cell { names z r ≡ true }
     ensures { result ≡ work_place z r }
 {
-    if r % 2 == 0 {
-        (r / 2 - 1) as usize
-    } else {
-        (z.branches + (r / 2 - 1)) as usize
+    match Kind::of(r) {
+        Kind::Branch => (r / 2 - 1) as usize,
+        Kind::Entry => (z.branches + (r / 2 - 1)) as usize,
     }
 }
 
@@ -65,16 +65,16 @@ fn tally_cell(a: &[u64], work: &mut [u64], z: Shape, r: u64, kids: u64)
 }
 
 // All cells of a kind.
-fn tally_cells(a: &[u64], work: &mut [u64], z: Shape, kind: u64, kids: u64)
+#[tactic(auto, using(layout::proofs::OffsetLaws::cells_few))]
+fn tally_cells(a: &[u64], work: &mut [u64], z: Shape, kind: Kind, kids: u64)
     requires lent { Lent z a.now }
     requires work_fits { work_words z ≤ length work.old }
     requires low { Low z (2 ^ 40) work.old }
     requires few_kids { kids ≤ 64 }
-    requires is_kind { kind < 2 }
-    ensures { Adds z (λ q. sum_to (cells_of z kind) (λ i. times kids ((columns z a.now).kid (reference kind i)) q)) work.old work.new }
+    ensures { Adds z (λ q. sum_to (cells_of z (number_of_kind kind)) (λ i. times kids ((columns z a.now).kid (reference (number_of_kind kind) i)) q)) work.old work.new }
 {
     for i in 0..words::cells_of(z, kind) {
-        tally_cell(a, &mut *work, z, 2 * i + 2 + kind, kids);
+        tally_cell(a, &mut *work, z, kind.reference(i), kids);
     }
 }
 
@@ -98,19 +98,19 @@ pub fn tally(a: &[u64], work: &mut [u64], z: Shape)
 {
     clear(&mut *work, z);
     tally_roots(a, &mut *work, z);
-    tally_cells(a, &mut *work, z, 0, z.degree);
-    tally_cells(a, &mut *work, z, 1, 1);
+    tally_cells(a, &mut *work, z, Kind::Branch, z.degree);
+    tally_cells(a, &mut *work, z, Kind::Entry, 1);
 }
 
 // Whether the work words of the cells of a kind are their counts.
-fn are_counts_of(a: &[u64], work: &[u64], z: Shape, kind: u64) -> bool
+#[tactic(auto, using(layout::proofs::OffsetLaws::cells_few))]
+fn are_counts_of(a: &[u64], work: &[u64], z: Shape, kind: Kind) -> bool
     requires lent { Lent z a.now }
     requires work_fits { work_words z ≤ length work.now }
-    requires is_kind { kind < 2 }
-    ensures { result ≡ counts_of z (columns z a.now) work.now kind }
+    ensures { result ≡ counts_of z (columns z a.now) work.now (number_of_kind kind) }
 {
     for i in 0..words::cells_of(z, kind) {
-        let r = 2 * i + 2 + kind;
+        let r = kind.reference(i);
         if work[work_at(z, r)] != words::word(a, z, r, words::COUNT) {
             return false;
         }
@@ -124,5 +124,5 @@ pub fn are_counts(a: &[u64], work: &[u64], z: Shape) -> bool
     requires work_fits { work_words z ≤ length work.now }
     ensures { result ≡ counts_right z (columns z a.now) work.now }
 {
-    are_counts_of(a, work, z, 0) && are_counts_of(a, work, z, 1)
+    are_counts_of(a, work, z, Kind::Branch) && are_counts_of(a, work, z, Kind::Entry)
 }

@@ -2,6 +2,18 @@
 use std::io;
 use tags::Class;
 
+const EDGES: [(u16, u16); 9] = [
+    (0x0008, 0x0010),
+    (0x0009, 0x000F),
+    (0x0009, 0x0010),
+    (0x0009, 0x00FF),
+    (0x0009, 0x0100),
+    (0x0009, 0x0FFF),
+    (0x0009, 0x1000),
+    (0x0009, 0xFFFF),
+    (0xFFFF, 0xFFFF),
+];
+
 fn class(rt: &impl Print, group: u16, element: u16) -> io::Result<()> {
     match tags::class_of(group, element) {
         Class::Public => print!(rt; "public"),
@@ -20,13 +32,8 @@ fn tag(rt: &impl Print, group: u16, element: u16) -> io::Result<()> {
 
 pub fn show(rt: &impl Print) -> io::Result<()> {
     println!(rt; "Tags (in hex)")?;
-    tag(rt, 0x0008, 0x0010)?;
-    tag(rt, 0x0009, 0x000F)?;
-    tag(rt, 0x0009, 0x0010)?;
-    tag(rt, 0x0009, 0x00FF)?;
-    tag(rt, 0x0009, 0x0100)?;
-    tag(rt, 0x0009, 0x0FFF)?;
-    tag(rt, 0x0009, 0x1000)?;
-    tag(rt, 0x0009, 0xFFFF)?;
-    tag(rt, 0xFFFF, 0xFFFF)
+    for (group, element) in EDGES {
+        tag(rt, group, element)?;
+    }
+    Ok(())
 }

@@ -33,17 +33,17 @@ fn walk(rt: &impl Print, hash: u64, degree: u64) -> io::Result<()> {
 fn path(rt: &impl Print, hash: u64, degree: u64) -> io::Result<()> {
     print!(rt; "  degree {degree}, hash {hash:x}:")?;
     walk(rt, hash, degree)?;
-    println!(rt; "")
+    println!(rt;)
 }
 
 pub fn show(rt: &impl Print) -> io::Result<()> {
     println!(rt; "Paths (hash and segments in hex)")?;
-    path(rt, 0x26, 16)?;
-    path(rt, 0x16, 16)?;
-    path(rt, 0x42, 16)?;
-    path(rt, 0x7000000000000008, 16)?;
-    path(rt, 0, 64)?;
-    path(rt, 0x8000000000000000, 64)?;
-    path(rt, 0, 8)?;
-    path(rt, 0x8000000000000000, 8)
+    for hash in [0x26, 0x16, 0x42, 0x7000000000000008] {
+        path(rt, hash, 16)?;
+    }
+    for degree in [64, 8] {
+        path(rt, 0, degree)?;
+        path(rt, 0x8000000000000000, degree)?;
+    }
+    Ok(())
 }

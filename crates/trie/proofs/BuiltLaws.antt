@@ -11,7 +11,8 @@ use borrow.Author.Tests.{eq-eqb, ne_eqb}
 use Rattle.cases.proofs.Cases.{eq?}
 use Rattle.trie.specs.Built.{unnamed, Built, nothing, inserted, removed}
 use Rattle.trie.specs.Canon.{Some, Busy, Under, In, Canon, Canonical}
-use Rattle.trie.specs.Entry.{Entry, Word64, matches, got}
+use Rattle.trie.specs.declared.Entry.{Entry}
+use Rattle.trie.specs.Entry.{Word64, matches, got}
 use Rattle.trie.specs.Listing.{All, Pairwise, Once, cut, place, Ordered}
 use Rattle.trie.specs.Trie.{branch, Item, leaf, single, Node, Kids, none, kid, empty, root, Map, insert_node, is_empty, remove_node, listing_chain, listing_node, listing, tidy, get, insert}
 use Rattle.trie.proofs.ListLaws.{All-weak}

@@ -8,7 +8,8 @@ use native.Mathlib.Omega.{arith}
 use lib.ListN.{length}
 use Rattle.trie.specs.Canon.{Some, Canon, Canonical}
 use Rattle.trie.specs.Cells.{before, along, branches_on, stand_before, insert_takes, left_takes, remove_takes}
-use Rattle.trie.specs.Entry.{Entry, absent, got, if_got}
+use Rattle.trie.specs.declared.Entry.{Entry}
+use Rattle.trie.specs.Entry.{absent, got, if_got}
 use Rattle.trie.specs.Names.{cells, total, branch_sum, entry_sum, on_map, news, gone}
 use Rattle.trie.specs.Trie.{branch, leaf, single, chain, Node, none, kid, empty, root, Map, on_found, child, item, is_empty, remove_node, remove, Updated, not_there, updated, tidy, get, insert}
 use Rattle.trie.proofs.CopyLaws.{Parts, before_there}

@@ -6,7 +6,8 @@ use Prim.Native.Nat.{ℕ, suc}
 use native.Mathlib.Omega.{arith}
 use Rattle.cases.proofs.Cases.{split}
 use Rattle.trie.specs.Canon.{AllItems, Distinct}
-use Rattle.trie.specs.Entry.{Entry, matches, Got, absent, got, if_got}
+use Rattle.trie.specs.declared.Entry.{Entry}
+use Rattle.trie.specs.Entry.{matches, Got, absent, got, if_got}
 use Rattle.trie.specs.Trie.{Item, item, find, copied, list_remove_first}
 use Rattle.trie.proofs.Matches.{matches-true}
 

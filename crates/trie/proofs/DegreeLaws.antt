@@ -13,7 +13,8 @@ use Rattle.segments.proofs.SegmentLaws.{segment_small, segment-last, hashes_diff
 use Rattle.segments.proofs.TableLaws.{Right}
 use Rattle.trie.specs.Built.{Built}
 use Rattle.trie.specs.Canon.{Some, Busy, Under, In, Canon, Canonical}
-use Rattle.trie.specs.Entry.{Entry, Word64}
+use Rattle.trie.specs.declared.Entry.{Entry}
+use Rattle.trie.specs.Entry.{Word64}
 use Rattle.trie.specs.Listing.{All, Pairwise}
 use Rattle.trie.specs.Names.{forget}
 use Rattle.trie.specs.Trie.{branch, Item, leaf, chain, Node, Kids, root, Map, Found, missing, found, child, listing_chain}

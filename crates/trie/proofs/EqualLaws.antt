@@ -11,7 +11,8 @@ use lib.ListN.{length}
 use borrow.Author.Tests.{eqb-true, eq-eqb}
 use Rattle.cases.proofs.Cases.{split}
 use Rattle.trie.specs.Canon.{Canonical}
-use Rattle.trie.specs.Entry.{Entry, Got, absent, got}
+use Rattle.trie.specs.declared.Entry.{Entry}
+use Rattle.trie.specs.Entry.{Got, absent, got}
 use Rattle.trie.specs.Listing.{All, lookup, Once, SameSet}
 use Rattle.trie.specs.Trie.{Map, listing, size, answers, every, get, equal}
 use Rattle.trie.proofs.MapLaws.{map_listing-get, map_listing-Once}

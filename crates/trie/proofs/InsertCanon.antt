@@ -7,7 +7,8 @@ use native.Mathlib.Omega.{arith}
 use lib.ListN.{length}
 use Rattle.cases.proofs.Cases.{split, Tri, is_less, is_equal, is_more, tri}
 use Rattle.trie.specs.Canon.{Above, Asc, AllKids, Some, Big, Busy, AllItems, Distinct, NonEmpty, Under, In, Canon}
-use Rattle.trie.specs.Entry.{Entry, matches, Got, absent, got, if_got}
+use Rattle.trie.specs.declared.Entry.{Entry}
+use Rattle.trie.specs.Entry.{matches, Got, absent, got, if_got}
 use Rattle.trie.specs.Trie.{Item, leaf, single, Node, Kids, none, kid, found, child, put, item, find, copied, list_remove_first, push_front, insert_node, every}
 use Rattle.trie.proofs.ChainLaws.{find_miss, copied_hit, copied_miss, find_removed_same, all_removed, Distinct-removed}
 use Rattle.trie.proofs.InsertCases.{single_down, InsertCase, in_chain, replaced, deeper, apart, new_child, in_child, insert_case}

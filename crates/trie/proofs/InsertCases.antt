@@ -9,7 +9,8 @@ use lib.ListN.{length}
 use borrow.Author.Tests.{eq-eqb, ne_eqb}
 use Rattle.cases.proofs.Cases.{split, eq?}
 use Rattle.trie.specs.Canon.{Asc, AllKids, Busy, AllItems, Distinct, NonEmpty, Under, In, Canon}
-use Rattle.trie.specs.Entry.{Entry, matches}
+use Rattle.trie.specs.declared.Entry.{Entry}
+use Rattle.trie.specs.Entry.{matches}
 use Rattle.trie.specs.Trie.{branch, Item, leaf, single, Node, Kids, none, kid, Found, missing, found, on_found, child, put, push_front, insert_node}
 use Rattle.trie.proofs.KidsLaws.{all_child}
 use Rattle.trie.proofs.PathLaws.{find_none}

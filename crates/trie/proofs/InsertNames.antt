@@ -6,7 +6,8 @@ use native.Mathlib.Omega.{arith}
 use lib.ListN.{length}
 use Rattle.trie.specs.Canon.{Above, Asc}
 use Rattle.trie.specs.Cells.{before, along}
-use Rattle.trie.specs.Entry.{Entry, absent}
+use Rattle.trie.specs.declared.Entry.{Entry}
+use Rattle.trie.specs.Entry.{absent}
 use Rattle.trie.specs.Names.{cells, total, branch_sum, entry_sum, news, gone}
 use Rattle.trie.specs.Trie.{leaf, single, chain, Node, Kids, none, kid, item, find, push_front}
 use Rattle.trie.proofs.ChainLaws.{find_miss}

@@ -6,7 +6,8 @@ use Prim.Native.Nat.{ℕ, ◌+◌}
 use native.Mathlib.Omega.{arith}
 use lib.ListN.{length}
 use Rattle.cases.proofs.Cases.{split}
-use Rattle.trie.specs.Entry.{Entry, matches, Got, absent, got, if_got}
+use Rattle.trie.specs.declared.Entry.{Entry}
+use Rattle.trie.specs.Entry.{matches, Got, absent, got, if_got}
 use Rattle.trie.specs.Listing.{All, lookup, Pairwise, Once, cut}
 use Rattle.trie.proofs.Matches.{matches-true}
 

@@ -8,7 +8,8 @@ use native.Mathlib.Omega.{arith}
 use lib.ListN.{length}
 use Rattle.cases.proofs.Cases.{split, Tri, is_less, is_equal, is_more, tri}
 use Rattle.trie.specs.Canon.{Above, Asc, AllKids, Busy, AllItems, Distinct, Under, In, Canon}
-use Rattle.trie.specs.Entry.{Entry, matches, Got, absent, got, if_got}
+use Rattle.trie.specs.declared.Entry.{Entry}
+use Rattle.trie.specs.Entry.{matches, Got, absent, got, if_got}
 use Rattle.trie.specs.Listing.{All, lookup, Pairwise, Once, cut, earlier, Ordered}
 use Rattle.trie.specs.Trie.{branch, Item, leaf, chain, Node, Kids, none, kid, Found, missing, found, on_found, child, put, take_out, find, copied, list_remove_first, push_front, get_node, listing_chain, listing_node, listing_kids}
 use Rattle.trie.proofs.ChainLaws.{copied_hit, copied_miss}

@@ -6,7 +6,7 @@ use mathlib.Core.List.{List, [], ◌∷◌, ◌++◌, append-nil}
 use Prim.Native.Nat.{ℕ, suc, ◌<◌}
 use lib.ListN.{length}
 use Rattle.trie.specs.Canon.{Above, Asc, AllKids, Canon}
-use Rattle.trie.specs.Entry.{Entry}
+use Rattle.trie.specs.declared.Entry.{Entry}
 use Rattle.trie.specs.Listing.{All, cut, earlier, place}
 use Rattle.trie.specs.Trie.{leaf, single, Node, Kids, none, kid, Found, missing, found, on_found, child, put, insert_node, settle, remove_node, listing_chain, listing_node, listing_kids}
 use Rattle.trie.proofs.InsertCases.{InsertCase, in_chain, replaced, deeper, apart, new_child, in_child, insert_case}

@@ -9,7 +9,8 @@ use native.Mathlib.Omega.{arith}
 use lib.ListN.{length}
 use Rattle.cases.proofs.Cases.{split}
 use Rattle.trie.specs.Canon.{Above, Asc, AllKids, Some, Busy, Under, Canon, Canonical}
-use Rattle.trie.specs.Entry.{Entry, Got, absent, got, if_got}
+use Rattle.trie.specs.declared.Entry.{Entry}
+use Rattle.trie.specs.Entry.{Got, absent, got, if_got}
 use Rattle.trie.specs.Listing.{lookup, Pairwise, Once, cut, place, Ordered}
 use Rattle.trie.specs.Trie.{branch, leaf, Node, none, kid, empty, root, Map, get_node, is_empty, remove_node, listing_chain, listing_node, listing, size, remove, not_there, updated, tidy, get, insert, change}
 use Rattle.trie.proofs.InsertCanon.{Ask-Some, Canon-single, Canon-insert}

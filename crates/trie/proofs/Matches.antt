@@ -6,7 +6,8 @@ use native.Mathlib.Omega.{arith}
 use lib.Dec.{eqb}
 use borrow.Author.Tests.{eqb-true, eq-eqb, ne_eqb}
 use Rattle.cases.proofs.Cases.{split}
-use Rattle.trie.specs.Entry.{Entry, matches}
+use Rattle.trie.specs.declared.Entry.{Entry}
+use Rattle.trie.specs.Entry.{matches}
 
 -- the test on keys
 pub matches-true : (h k : ℕ) (e : Entry) → matches h k e ≡ true → (e.hash ≡ h) × (e.key ≡ k)

@@ -7,7 +7,8 @@ use native.Mathlib.Omega.{arith}
 use lib.ListN.{length}
 use borrow.Author.Tests.{eq-eqb, ne_eqb, lt-ltb, le-ltb}
 use Rattle.cases.proofs.Cases.{split}
-use Rattle.trie.specs.Entry.{Entry, matches, got, if_got}
+use Rattle.trie.specs.declared.Entry.{Entry}
+use Rattle.trie.specs.Entry.{matches, got, if_got}
 use Rattle.trie.specs.Listing.{All, lookup, Pairwise, cut, earlier, place, Ordered}
 use Rattle.trie.proofs.ListLaws.{lookup_hit, lookup_miss, cut_hit, cut_miss, Unmatched, cut_none, cut_left, Pairwise-weak, cut_other, cut-length}
 use Rattle.trie.proofs.Matches.{matches-true, matches_self, matches_apart}

@@ -8,7 +8,8 @@ use native.Mathlib.Omega.{arith}
 use lib.ListN.{length}
 use Rattle.cases.proofs.Cases.{split}
 use Rattle.trie.specs.Canon.{Asc, AllKids, Some, Big, Busy, AllItems, NonEmpty, Under, In, Canon}
-use Rattle.trie.specs.Entry.{Entry, matches, got, if_got}
+use Rattle.trie.specs.declared.Entry.{Entry}
+use Rattle.trie.specs.Entry.{matches, got, if_got}
 use Rattle.trie.specs.Trie.{branch, Item, leaf, Node, Kids, none, kid, found, child, put, take_out, list_remove_first, get_node, is_empty, is_single, settle, compress, remove_node, every}
 use Rattle.trie.proofs.ChainLaws.{find_hit, find_miss, copied_hit, all_removed, Distinct-removed}
 use Rattle.trie.proofs.InsertCanon.{Busy-Some, removed_two, removed_absent}

@@ -7,7 +7,7 @@ use Prim.Native.Nat.{ℕ, zero, suc}
 use lib.ListN.{length}
 use Rattle.cases.proofs.Cases.{split}
 use Rattle.trie.specs.Canon.{Asc, AllKids, Busy, Canon}
-use Rattle.trie.specs.Entry.{Entry}
+use Rattle.trie.specs.declared.Entry.{Entry}
 use Rattle.trie.specs.Trie.{branch, Item, leaf, Node, Kids, none, kid, Found, missing, found, on_found, child, put, take_out, list_remove_first, is_empty, is_single, settle, compress, remove_node}
 use Rattle.trie.proofs.KidsLaws.{child-put_other, child_take_other, all_child}
 

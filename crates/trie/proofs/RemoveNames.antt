@@ -8,7 +8,8 @@ use lib.ListN.{length}
 use Rattle.cases.proofs.Cases.{eq?}
 use Rattle.trie.specs.Canon.{Asc}
 use Rattle.trie.specs.Cells.{before, along}
-use Rattle.trie.specs.Entry.{Entry, got}
+use Rattle.trie.specs.declared.Entry.{Entry}
+use Rattle.trie.specs.Entry.{got}
 use Rattle.trie.specs.Names.{cells, total, branch_sum, entry_sum, news, gone}
 use Rattle.trie.specs.Trie.{branch, Item, leaf, chain, Node, Kids, none, kid, found, child, put, take_out, find, list_remove_first, get_node, settle}
 use Rattle.trie.proofs.KidsLaws.{child_hit, child_miss, child-put, child_take, all_child}

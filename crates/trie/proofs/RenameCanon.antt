@@ -4,7 +4,7 @@ use mathlib.Core.Logic.{◌↔◌}
 use mathlib.Core.List.{List, [], ◌∷◌}
 use Prim.Native.Nat.{ℕ, zero, suc}
 use Rattle.trie.specs.Canon.{Above, Asc, AllKids, Some, Big, Busy, AllItems, Distinct, NonEmpty, In, Canon}
-use Rattle.trie.specs.Entry.{Entry}
+use Rattle.trie.specs.declared.Entry.{Entry}
 use Rattle.trie.specs.Names.{rename_items, rename_node, rename_kids}
 use Rattle.trie.specs.Trie.{branch, Item, leaf, Node, Kids, none, kid}
 use Rattle.trie.proofs.RenameNodes.{find_rename}

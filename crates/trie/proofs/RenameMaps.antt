@@ -8,7 +8,8 @@ use lib.ListN.{length}
 use Rattle.trie.specs.Built.{unnamed}
 use Rattle.trie.specs.Canon.{Canonical}
 use Rattle.trie.specs.Cells.{before, branches_on, stand_before, insert_takes, left_takes, remove_takes}
-use Rattle.trie.specs.Entry.{Entry, Got, absent, got, if_got}
+use Rattle.trie.specs.declared.Entry.{Entry}
+use Rattle.trie.specs.Entry.{Got, absent, got, if_got}
 use Rattle.trie.specs.Names.{rename_items, rename_node, rename, rename_updated, forget}
 use Rattle.trie.specs.Trie.{branch, leaf, chain, Node, none, kid, empty, root, Map, get_node, is_empty, remove_node, listing, size, remove, Updated, not_there, updated, tidy, get, insert, change}
 use Rattle.trie.proofs.RenameCanon.{root_rename}

@@ -5,7 +5,8 @@ use mathlib.Core.List.{List, [], ◌∷◌}
 use Prim.Native.Nat.{ℕ, zero, suc, ◌+◌}
 use lib.Dec.{eqb, ltb}
 use Rattle.trie.specs.Cells.{before, ahead, along}
-use Rattle.trie.specs.Entry.{Entry, matches, Got, absent, got, if_got}
+use Rattle.trie.specs.declared.Entry.{Entry}
+use Rattle.trie.specs.Entry.{matches, Got, absent, got, if_got}
 use Rattle.trie.specs.Names.{rename_items, rename_node, rename_kids, rename_found}
 use Rattle.trie.specs.Trie.{branch, Item, leaf, single, chain, Node, Kids, none, kid, Found, missing, found, on_found, child, put, take_out, find, copied, list_remove_first, push_front, get_node, insert_node, is_empty, is_single, settle, compress, remove_node, listing_chain, listing_node, listing_kids}
 use Rattle.trie.proofs.InsertCases.{insert_new, insert_at}

@@ -8,7 +8,8 @@ use Prim.Native.Nat.{ℕ}
 use native.Mathlib.Omega.{arith}
 use lib.ListN.{length}
 use Rattle.cases.proofs.Cases.{split}
-use Rattle.trie.specs.Entry.{Entry, matches, Got, absent, got}
+use Rattle.trie.specs.declared.Entry.{Entry}
+use Rattle.trie.specs.Entry.{matches, Got, absent, got}
 use Rattle.trie.specs.Listing.{All, lookup, Pairwise, Once, cut, SameSet}
 use Rattle.trie.proofs.ListLaws.{lookup_hit, lookup_miss, Unmatched, Unmatched-absent, cut_other, cut_same, cut-Pairwise, cut_found}
 use Rattle.trie.proofs.Matches.{matches-true, matches_self, matches_apart}

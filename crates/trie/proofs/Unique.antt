@@ -6,7 +6,7 @@ use Prim.Native.Nat.{ℕ, zero, suc, ◌<◌, ◌≤◌}
 use native.Mathlib.Omega.{arith}
 use lib.ListN.{length, length-append}
 use Rattle.trie.specs.Canon.{Above, Asc, AllKids, Some, Big, Busy, NonEmpty, Canon}
-use Rattle.trie.specs.Entry.{Entry}
+use Rattle.trie.specs.declared.Entry.{Entry}
 use Rattle.trie.specs.Listing.{All}
 use Rattle.trie.specs.Trie.{branch, Item, leaf, Node, Kids, none, kid, item, listing_chain, listing_node, listing_kids}
 use Rattle.trie.proofs.InsertCanon.{Busy-Some}

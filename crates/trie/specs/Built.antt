@@ -1,7 +1,8 @@
 -- "A trie that the rules above can build" (document 01, SOUND): the tries that inserts and removes make of the empty one.
 -- Names play no part.
 use Rattle.std.specs.Prelude.{◌≡◌, ℕ}
-use Rattle.trie.specs.Entry.{Entry, Word64}
+use Rattle.trie.specs.declared.Entry.{Entry}
+use Rattle.trie.specs.Entry.{Word64}
 use Rattle.trie.specs.Trie.{empty, Map, remove, updated, insert}
 
 abbrev pub unnamed : ℕ → Unit {0}

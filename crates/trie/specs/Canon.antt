@@ -1,7 +1,8 @@
 -- The structural form of "a trie that the rules above can build" (document 01, SOUND): what every path, branch and chain of
 -- such a trie looks like.
 use Rattle.std.specs.Prelude.{◌≡◌, List, [], ◌∷◌, ℕ, zero, suc, ◌<◌, length}
-use Rattle.trie.specs.Entry.{Entry, absent}
+use Rattle.trie.specs.declared.Entry.{Entry}
+use Rattle.trie.specs.Entry.{absent}
 use Rattle.trie.specs.Trie.{branch, Item, leaf, Node, Kids, none, kid, empty, root, Map, find}
 
 -- every segment is above lo, and they ascend

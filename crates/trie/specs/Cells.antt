@@ -1,6 +1,7 @@
 -- Document 01, "What an update takes", restated; what stands in quotes is document 01's.
 use Rattle.std.specs.Prelude.{cond, List, [], ◌∷◌, ℕ, zero, suc, ◌+◌}
-use Rattle.trie.specs.Entry.{Entry, matches, if_got}
+use Rattle.trie.specs.declared.Entry.{Entry}
+use Rattle.trie.specs.Entry.{matches, if_got}
 use Rattle.trie.specs.Trie.{branch, Item, leaf, chain, Node, empty, root, Map, on_found, child, find, remove, Updated, not_there, updated, insert}
 
 -- "The answer reports the cells taken of each kind."

@@ -1,11 +1,7 @@
 -- Entries. Document 01, "The crate's part and ours": keys, values and hashes are 64-bit unsigned numbers; two entries are the
 -- same key only if hash and key both agree.
 use Rattle.std.specs.Prelude.{Bool, false, cond, ℕ, ◌^◌, ◌<◌, eqb}
-
-pub record Entry : Type 0 where
-  pub hash : ℕ
-  pub key : ℕ
-  pub value : ℕ
+use Rattle.trie.specs.declared.Entry.{Entry}
 
 pub record Word64 (e : Entry) : Type 0 where
   pub hash_fits : e.hash < 2 ^ 64

@@ -1,7 +1,8 @@
 -- Listings by themselves, as plain lists of entries: what a list answers for a key, and what insert and remove make of it.
 use Rattle.std.specs.Prelude.{◌≡◌, Bool, false, cond, ◌↔◌, ℕ, zero, suc, eqb, ltb}
 use mathlib.Core.List.{List, [], ◌∷◌, Memᴰ}
-use Rattle.trie.specs.Entry.{Entry, matches, Got, absent, got}
+use Rattle.trie.specs.declared.Entry.{Entry}
+use Rattle.trie.specs.Entry.{matches, Got, absent, got}
 
 unfoldable pub All : (Entry → Type 0) → List Entry → Type 0
 All P [] = Unit {0}

@@ -5,7 +5,8 @@ use Rattle.std.specs.Prelude.{◌≡◌, refl, Bool, true, false, cond, List, []
 use Rattle.std.proofs.Common.{inl, inr}
 use Rattle.segments.specs.Segments.{Row, row, table, Listed, segment}
 use Rattle.trie.specs.Cells.{Taken, before, ahead, along, branches_on, stand_before, insert_takes, left_takes, remove_takes}
-use Rattle.trie.specs.Entry.{Entry, matches, if_got}
+use Rattle.trie.specs.declared.Entry.{Entry}
+use Rattle.trie.specs.Entry.{matches, if_got}
 use Rattle.trie.specs.Names.{rename_items, rename_node, rename, forget}
 use Rattle.trie.specs.Trie.{branch, Item, leaf, chain, Node, Kids, none, kid, empty, root, Map, on_found, child, put, take_out, item, find, copied, list_remove_first, push_front, insert_node, is_empty, is_single, settle, compress, remove_node, listing_chain, listing_node, listing, remove, Updated, not_there, updated, tidy, insert}
 

@@ -4,7 +4,8 @@
 -- 1, and so on. Whatever is shared keeps its name, so one definition says what an update shows, what it shares and what it
 -- takes.
 use Rattle.std.specs.Prelude.{Bool, true, false, cond, List, [], ◌∷◌, ◌++◌, ℕ, zero, suc, eqb, ltb, length}
-use Rattle.trie.specs.Entry.{Entry, matches, Got, absent, got, if_got}
+use Rattle.trie.specs.declared.Entry.{Entry}
+use Rattle.trie.specs.Entry.{matches, Got, absent, got, if_got}
 
 pub record Item (X : Type 0) : Type 0 where
   pub cell : X

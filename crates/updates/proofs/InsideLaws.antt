@@ -2,6 +2,7 @@
 -- total and the length are kept, whatever is answered.
 use Prim.Native.Nat.{ℕ, ◌<◌}
 use mathlib.Core.List.{List}
+use Rattle.trie.specs.declared.Entry.{Entry}
 use Rattle.layout.specs.declared.Shape.{Shape}
 use Rattle.layout.specs.Layout.{Lent}
 use Rattle.cells.specs.Frame.{Kept}
@@ -12,9 +13,9 @@ use Rattle.grants.proofs.InsideLaws.{wrote_kept, hold_Kept}
 use Rattle.updates.specs.declared.Plan.{Plan}
 use Rattle.updates.specs.Calls.{write_to}
 
-pub write_kept : {z : Shape} {a : List ℕ} → Lent z a → (h k v : ℕ) (p : Plan) (s : ℕ) → s < z.slots
-    → Kept z a (write_to z a h k v p s).words
+pub write_kept : {z : Shape} {a : List ℕ} → Lent z a → (x : Entry) (p : Plan) (s : ℕ) → s < z.slots
+    → Kept z a (write_to z a x p s).words
 unfolding write_to
-write_kept {z} l h k v p s ls =
-    wrote_kept _ Why.NoEntryCells _ (push_kept _ _ p.before p.front p.rest l)
-    (hold_Kept l.allowed s p.size _ _ ls _ (graft_Kept z h _ p.replaced z.depths 0 p.root _))
+write_kept {z} l x p s ls =
+    wrote_kept _ Why.NoEntryCells _ (push_kept _ _ p.tail.count p.tail.from p.tail.rest l)
+    (hold_Kept l.allowed s p.size _ _ ls _ (graft_Kept z x.hash _ p.replaced z.depths 0 p.root _))

@@ -12,7 +12,8 @@ use Rattle.layout.specs.declared.Shape.{Shape}
 use Rattle.layout.specs.Layout.{Lent}
 use Rattle.layout.specs.Columns.{columns}
 use Rattle.layout.proofs.SizeLaws.{row_is_Right}
-use Rattle.trie.specs.Entry.{Entry, Word64}
+use Rattle.trie.specs.declared.Entry.{Entry}
+use Rattle.trie.specs.Entry.{Word64}
 use Rattle.trie.specs.Trie.{Item, Node, kid, none, single, Map, empty, root, item, get, insert_node, insert}
 use Rattle.trie.specs.Canon.{Some, Canonical}
 use Rattle.trie.specs.Cells.{branches_on, insert_takes}

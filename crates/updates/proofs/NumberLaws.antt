@@ -7,12 +7,14 @@ use mathlib.Core.List.{List}
 use mathlib.Core.Logic.{⊎_elim}
 use native.Mathlib.Omega.{arith}
 use Rattle.cases.proofs.Cases.{lt?}
+use Rattle.trie.specs.declared.Entry.{Entry}
 use Rattle.layout.specs.declared.Shape.{Shape}
 use Rattle.layout.specs.Layout.{cells_of, Lent}
 use Rattle.layout.specs.Header.{Header}
 use Rattle.layout.proofs.HeaderLaws.{Header-Lent}
 use Rattle.cells.specs.Mirrors.{one_more}
 use Rattle.cells.proofs.TakeLaws.{more_some, more_none}
+use Rattle.chains.specs.Chains.{an_entry}
 use Rattle.replies.specs.declared.Refusal.TheVariants as Why
 use Rattle.replies.specs.Outcomes.{Outcome}
 use Rattle.replies.proofs.Tables.{Gives, HeaderNumbered, Unaltered, number, read}
@@ -25,9 +27,9 @@ use Rattle.updates.proofs.TestLaws.{NotThere, write_of, writing}
 use Rattle.updates.proofs.WantedLaws.{wanted_lacks}
 
 -- an update that goes on gives 8, 9 or 0, and a refusal's values are zeros
-to_Answers : (z : Shape) (a : List ℕ) (h k v : ℕ) (p : Plan) (s : ℕ) → Answers (write_to z a h k v p s)
+to_Answers : (z : Shape) (a : List ℕ) (x : Entry) (p : Plan) (s : ℕ) → Answers (write_to z a x p s)
 unfolding write_to
-to_Answers z a h k v p s =
+to_Answers z a x p s =
     wrote_Answers _ Why.NoEntryCells _ (few_entries_Answers _) (hold_Answers z s p.size _ _ _)
 
 -- where a word has no room for one more there are not that many cells either
@@ -46,15 +48,15 @@ module _ (a : List ℕ) (e h k v : ℕ) (change : Bool) where
 
   -- the numbers on any words
   pub write_answers : HeaderNumbered a a
-      (λ z. AnyWhen z a e (NotThere change (plan_of z a e h k).replaced) (number (write_in z a e h k v change))) (read a call.answer)
+      (λ z. AnyWhen z a e (NotThere change (plan_of z a e h k).replaced) (number (write_in z a e (an_entry h k v) change))) (read a call.answer)
   write_answers =
-      update_answers a e (writing a e h k v change) (λ z. to_Answers z a h k v (plan_of z a e h k))
+      update_answers a e (writing a e h k v change) (λ z. to_Answers z a (an_entry h k v) (plan_of z a e h k))
       (λ z held. wanted_lacks change (plan_of z a e h k))
 
   -- and below 8 they leave every word as it was
   pub write_Unaltered : (number call ≡ 0 → ⊥) → number call < 8 → Unaltered a call
   write_Unaltered =
-      update_Unaltered a e (writing a e h k v change) (λ z. to_Answers z a h k v (plan_of z a e h k))
+      update_Unaltered a e (writing a e h k v change) (λ z. to_Answers z a (an_entry h k v) (plan_of z a e h k))
       (λ z held. wanted_lacks change (plan_of z a e h k))
 
   module _ (z : Shape) (right : Header a z) where
@@ -64,11 +66,11 @@ module _ (a : List ℕ) (e h k v : ℕ) (change : Bool) where
     -- 8 or 9, with nothing written, where the counts do not fit
     pub write_few_branches : Goes z a e (NotThere change said.replaced) → free_cell_count z a 0 < said.branches → Gives a call 8
     write_few_branches =
-        update_few_branches a e (writing a e h k v change) (λ y. to_Answers y a h k v (plan_of y a e h k))
+        update_few_branches a e (writing a e h k v change) (λ y. to_Answers y a (an_entry h k v) (plan_of y a e h k))
         (λ y held. wanted_lacks change (plan_of y a e h k)) z right
 
     pub write_few_entries : Goes z a e (NotThere change said.replaced) → said.branches ≤ free_cell_count z a 0
-        → free_cell_count z a 1 < suc said.before → Gives a call 9
+        → free_cell_count z a 1 < suc said.tail.count → Gives a call 9
     write_few_entries g b l =
-        update_few_entries a e (writing a e h k v change) (λ y. to_Answers y a h k v (plan_of y a e h k))
-        (λ y held. wanted_lacks change (plan_of y a e h k)) z right g b (free_more said.before (Header-Lent a z right) l)
+        update_few_entries a e (writing a e h k v change) (λ y. to_Answers y a (an_entry h k v) (plan_of y a e h k))
+        (λ y held. wanted_lacks change (plan_of y a e h k)) z right g b (free_more said.tail.count (Header-Lent a z right) l)

@@ -11,7 +11,8 @@ use Rattle.layout.specs.declared.Shape.{Shape}
 use Rattle.layout.specs.Layout.{names, Lent}
 use Rattle.layout.specs.Columns.{State, columns}
 use Rattle.layout.proofs.SizeLaws.{row_is_Right, small}
-use Rattle.trie.specs.Entry.{Entry, Word64, Got, absent, got}
+use Rattle.trie.specs.declared.Entry.{Entry}
+use Rattle.trie.specs.Entry.{Word64, Got, absent, got}
 use Rattle.trie.specs.Trie.{Item, Node, Map, empty, root, item, chain, push_front, get, size, insert}
 use Rattle.trie.specs.Canon.{Canonical}
 use Rattle.trie.specs.Cells.{insert_takes}
@@ -43,19 +44,19 @@ use Rattle.std.specs.Prelude.{Some, None}
 pub record Plans (z : Shape) (a : List ℕ) (b f : ℕ → ℕ) (x : Entry) (m : Map ℕ) (good : Good z m) (r : ℕ) (p : Plan)
     : Type 0 where
   pub branches_is : p.branches ≡ new_branches z b f x m
-  pub more_is : one_more p.before ≡ suc p.before
-  pub entries_is : suc p.before ≡ (insert_takes (segment z.bits) z.depths b f x m).entries
+  pub more_is : one_more p.tail.count ≡ suc p.tail.count
+  pub entries_is : suc p.tail.count ≡ (insert_takes (segment z.bits) z.depths b f x m).entries
   pub replaced_is : p.replaced ≡ has_key z x.hash x.key m
   pub size_is : p.size ≡ size (with_entry z b f x m)
   pub root_is : p.root ≡ r
   pub copied : List (Item ℕ)
   pub behind : List (Item ℕ)
   pub shared : List (Item ℕ)
-  pub front_shown : ShowsChain (columns z a) (copied ++ behind) p.front
-  pub copied_length : length copied ≡ p.before
-  pub behind_length : 0 < p.before → length behind ≡ suc (length shared)
-  pub shared_shown : ShowsChain (columns z a) shared p.rest
-  pub length_is : p.length ≡ suc (p.before + length shared)
+  pub front_shown : ShowsChain (columns z a) (copied ++ behind) p.tail.from
+  pub copied_length : length copied ≡ p.tail.count
+  pub behind_length : 0 < p.tail.count → length behind ≡ suc (length shared)
+  pub shared_shown : ShowsChain (columns z a) shared p.tail.rest
+  pub length_is : p.length ≡ suc (p.tail.count + length shared)
   pub leaf_is : new_leaf z b f x m good ≡ item (f 0) x ∷ (copies f 1 copied ++ shared)
 
 -- BY THE SEARCH

@@ -48,7 +48,7 @@ module _ (a : List ℕ) (S : Sound a) (z : Shape) (head : Header a z) (e h k v :
   plan_branches b f = (sound_plan b f).branches_is
 
   pub plan_entries : (b f : ℕ → ℕ)
-      → one_more (plan_of z a e h k).before ≡ (insert_takes (segment z.bits) z.depths b f (an_entry h k v) m).entries
+      → one_more (plan_of z a e h k).tail.count ≡ (insert_takes (segment z.bits) z.depths b f (an_entry h k v) m).entries
   plan_entries b f = (sound_plan b f).more_is ∙ (sound_plan b f).entries_is
 
   pub plan_replaced : (plan_of z a e h k).replaced ≡ has_key z h k m
@@ -56,7 +56,7 @@ module _ (a : List ℕ) (S : Sound a) (z : Shape) (head : Header a z) (e h k v :
 
   -- THE WRITING, where there are the cells and a slot is free
   pub write_Does : (change : Bool) {free : ℕ → List ℕ} → Local z (columns z a) (λ r. 0) free
-      → (plan_of z a e h k).branches ≤ length (free 0) → one_more (plan_of z a e h k).before ≤ length (free 1)
+      → (plan_of z a e h k).branches ≤ length (free 0) → one_more (plan_of z a e h k).tail.count ≤ length (free 1)
       → (s : ℕ) → s < z.slots → (word_of_slot z a s 0 ≡ 1 → ⊥)
       → Does z a free (insert_step (an_entry h k v) z) m (writing a e h k v change z) s
   write_Does change {free} local room_0 room_1 s ls away =
@@ -64,7 +64,7 @@ module _ (a : List ℕ) (S : Sound a) (z : Shape) (head : Header a z) (e h k v :
       let bn : ℕ → ℕ = names_of_branches free p.branches in
       let fn : ℕ → ℕ = names_of_entries free in
       let P = sound_plan bn fn in
-      let (b, done, W) = write_means lent local h k v p m good ((columns z a).root e) E.shows P room_0
+      let (b, done, W) = write_means lent local (an_entry h k v) p m good ((columns z a).root e) E.shows P room_0
       (omega (arith, P.more_is)) s ls away in
       record {
         after = b;

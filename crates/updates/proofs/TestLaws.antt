@@ -5,20 +5,22 @@ use mathlib.Core.Bool.{Bool, true, false, cond}
 use mathlib.Core.List.{List}
 use mathlib.Core.Logic.{◌↔◌}
 use native.Mathlib.Omega.{arith}
+use Rattle.trie.specs.declared.Entry.{Entry}
 use Rattle.layout.specs.declared.Shape.{Shape}
 use Rattle.cells.specs.Mirrors.{one_more}
+use Rattle.chains.specs.Chains.{an_entry}
 use Rattle.replies.specs.Outcomes.{Outcome}
 use Rattle.grants.proofs.CaseLaws.{Update, update_of}
 use Rattle.updates.specs.declared.Plan.{Plan}
 use Rattle.updates.specs.Calls.{plan_of, write_to, wanted}
 
 -- insert where `change` is false, else change: by a plan, and by the one of the reading pass
-abbrev pub writing_by : Shape → List ℕ → ℕ → ℕ → ℕ → Bool → Plan → Update
-writing_by z a h k v change p =
-    record { wanted = wanted change p; branches = p.branches; entries = one_more p.before; does = write_to z a h k v p }
+abbrev pub writing_by : Shape → List ℕ → Entry → Bool → Plan → Update
+writing_by z a x change p =
+    record { wanted = wanted change p; branches = p.branches; entries = one_more p.tail.count; does = write_to z a x p }
 
 abbrev pub writing : List ℕ → ℕ → ℕ → ℕ → ℕ → Bool → Shape → Update
-writing a e h k v change z = writing_by z a h k v change (plan_of z a e h k)
+writing a e h k v change z = writing_by z a (an_entry h k v) change (plan_of z a e h k)
 
 abbrev pub write_of : List ℕ → ℕ → ℕ → ℕ → ℕ → Bool → Outcome
 write_of a e h k v change = update_of a e (writing a e h k v change)

@@ -7,7 +7,8 @@ use mathlib.Core.Bool.{Bool, true, false}
 use mathlib.Core.List.{List}
 use Rattle.segments.specs.Segments.{segment}
 use Rattle.layout.proofs.HeaderLaws.{Header-Lent}
-use Rattle.trie.specs.Entry.{Entry, Word64}
+use Rattle.trie.specs.declared.Entry.{Entry}
+use Rattle.trie.specs.Entry.{Word64}
 use Rattle.trie.specs.Trie.{Map, Updated, updated, not_there}
 use Rattle.trie.specs.Built.{Built, inserted}
 use Rattle.trie.specs.Names.{forget}
@@ -40,8 +41,8 @@ insert_Builds x fits z b f m result t q =
 pub writer : (a : List ℕ) (e h k v : ℕ) (change : Bool) → Writer a e (insert_step (an_entry h k v)) (writing a e h k v change)
 writer a e h k v change =
     record {
-      inside = λ z head. write_kept (Header-Lent a z head) h k v (plan_of z a e h k);
-      slot = λ z head. write_slot z a h k v (plan_of z a e h k);
+      inside = λ z head. write_kept (Header-Lent a z head) (an_entry h k v) (plan_of z a e h k);
+      slot = λ z head. write_slot z a (an_entry h k v) (plan_of z a e h k);
       does = λ S z head m E there. write_Does a S z head e h k v m E change;
     }
 

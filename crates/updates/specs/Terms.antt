@@ -2,7 +2,7 @@
 -- the trie's insert. What stands in quotes is document 01's.
 use Rattle.std.specs.Prelude.{ℕ, List, Result}
 use Rattle.segments.specs.Segments.{segment}
-use Rattle.trie.specs.Entry.{Entry}
+use Rattle.trie.specs.declared.Entry.{Entry}
 use Rattle.trie.specs.Trie.{insert, updated}
 use Rattle.trie.specs.Cells.{insert_takes}
 use Rattle.layout.specs.declared.Shape.{Shape}

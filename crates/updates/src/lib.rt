@@ -16,20 +16,20 @@ ghost use Rattle.replies.specs.Outcomes.{leaves};
 ghost use Rattle.updates.specs.Calls.{replacing, adding, plan_of, write_to, planned_to, wanted, write_in, insert_in, change_in};
 
 use cells::{shares, slots};
+use chains::Tail;
 use layout::{Shape, words};
 use lookup::links;
 use replies::{Refusal, Updated};
+use trie::Entry;
 
-// What the reading pass finds: the edition's root, the size of the new edition; the chain at the end of the path, how many
-// of its entries stand before the one that is replaced, what will stand behind the new entry and these, and how long the new
-// chain is; how many branches the new path has; and whether an entry is replaced.
+// What the reading pass finds: the edition's root, the size of the new edition; what will stand behind the new entry, namely
+// copies of the entries before the one that is replaced and what is shared, and how long the new chain is; how many branches
+// the new path has; and whether an entry is replaced.
 #[derive(Clone, Copy)]
 pub struct Plan {
     pub root: u64,
     pub size: u64,
-    pub front: u64,
-    pub before: u64,
-    pub rest: u64,
+    pub tail: Tail,
     pub length: u64,
     pub branches: u64,
     pub replaced: bool,
@@ -45,9 +45,11 @@ fn replace(a: &[u64], z: Shape, root: u64, size: u64, hash: u64, front: u64, hit
     Plan {
         root,
         size,
-        front,
-        before: shares::less(length, chains::length(a, z, hit)),
-        rest: links::kid(a, z, hit, 0),
+        tail: Tail {
+            count: shares::less(length, chains::length(a, z, hit)),
+            from: front,
+            rest: links::kid(a, z, hit, 0),
+        },
         length,
         branches: reach.branches,
         replaced: true,
@@ -64,9 +66,11 @@ fn add(a: &[u64], z: Shape, root: u64, size: u64, hash: u64) -> Plan
     Plan {
         root,
         size: shares::more(size),
-        front: 0,
-        before: 0,
-        rest,
+        tail: Tail {
+            count: 0,
+            from: 0,
+            rest,
+        },
         length: shares::more(chains::length(a, z, rest)),
         branches: reach.branches,
         replaced: false,
@@ -90,53 +94,36 @@ fn survey(a: &[u64], z: Shape, edition: u64, hash: u64, key: u64) -> Plan
 
 // The new edition in a slot. On a sound arena there are the cells that were counted; on any other a free chain may break
 // off, and then what was written stands, but no slot is taken.
-fn write(
-    a: &mut [u64],
-    z: Shape,
-    hash: u64,
-    key: u64,
-    value: u64,
-    plan: Plan,
-    slot: u64,
-) -> Result<Updated, Refusal>
+fn write(a: &mut [u64], z: Shape, entry: Entry, plan: Plan, slot: u64) -> Result<Updated, Refusal>
     requires lent { Lent z a.old }
     requires in_slots { slot < z.slots }
-    ensures { leaves (update_answer result) a.new ≡ write_to z a.old hash key value plan slot }
+    ensures { leaves (update_answer result) a.new ≡ write_to z a.old entry plan slot }
 {
-    let leaf = chains::push_front(
-        &mut *a,
-        z,
-        plan.length,
-        hash,
-        key,
-        value,
-        plan.before,
-        plan.front,
-        plan.rest,
-    );
+    let leaf = chains::push_front(&mut *a, z, plan.length, entry, plan.tail);
     if leaf == 0 {
         return Err(Refusal::NoEntryCells);
     }
-    let root = grafts::graft(&mut *a, z, hash, leaf, plan.replaced, z.depths, plan.root);
-    let entries = shares::more(plan.before);
+    let root = grafts::graft(
+        &mut *a,
+        z,
+        entry.hash,
+        leaf,
+        plan.replaced,
+        z.depths,
+        plan.root,
+    );
+    let entries = shares::more(plan.tail.count);
     grants::hold_root(a, z, slot, root, plan.size, plan.branches, entries)
 }
 
 // A plan carried out, if there are a slot and the cells for it.
 #[tactic(auto, using(grants::proofs::CaseLaws::room_in, crate::proofs::StepLaws::room_goes, crate::proofs::StepLaws::room_refuses))]
-fn write_planned(
-    a: &mut [u64],
-    z: Shape,
-    hash: u64,
-    key: u64,
-    value: u64,
-    plan: Plan,
-) -> Result<Updated, Refusal>
+fn write_planned(a: &mut [u64], z: Shape, entry: Entry, plan: Plan) -> Result<Updated, Refusal>
     requires { Lent z a.old }
-    ensures { leaves (update_answer result) a.new ≡ planned_to z a.old hash key value plan }
+    ensures { leaves (update_answer result) a.new ≡ planned_to z a.old entry plan }
 {
-    let slot = grants::find_room(&*a, z, plan.branches, shares::more(plan.before))?;
-    write(a, z, hash, key, value, plan, slot)
+    let slot = grants::find_room(&*a, z, plan.branches, shares::more(plan.tail.count))?;
+    write(a, z, entry, plan, slot)
 }
 
 // Insert and change differ in one thing: a change wants the key to be there.
@@ -150,18 +137,16 @@ fn write_held(
     a: &mut [u64],
     z: Shape,
     edition: u64,
-    hash: u64,
-    key: u64,
-    value: u64,
+    entry: Entry,
     present: bool,
 ) -> Result<Updated, Refusal>
     requires lent { Lent z a.old }
     requires is_held { held_slot z a.old edition ≡ true }
-    ensures { leaves (update_answer result) a.new ≡ write_in z a.old edition hash key value present }
+    ensures { leaves (update_answer result) a.new ≡ write_in z a.old edition entry present }
 {
-    let found = survey(&*a, z, edition, hash, key);
+    let found = survey(&*a, z, edition, entry.hash, entry.key);
     if wants(present, found) {
-        write_planned(a, z, hash, key, value, found)
+        write_planned(a, z, entry, found)
     } else {
         Err(Refusal::Absent)
     }
@@ -171,47 +156,31 @@ fn write_edition(
     a: &mut [u64],
     z: Shape,
     edition: u64,
-    hash: u64,
-    key: u64,
-    value: u64,
+    entry: Entry,
     present: bool,
 ) -> Result<Updated, Refusal>
     requires { Lent z a.old }
-    ensures { leaves (update_answer result) a.new ≡ write_in z a.old edition hash key value present }
+    ensures { leaves (update_answer result) a.new ≡ write_in z a.old edition entry present }
 {
     if slots::is_held(&*a, z, edition) {
-        write_held(a, z, edition, hash, key, value, present)
+        write_held(a, z, edition, entry, present)
     } else {
         Err(Refusal::NoSuchEdition)
     }
 }
 
 // An edition with an entry put in it, in the lowest free slot.
-pub fn insert(
-    a: &mut [u64],
-    z: Shape,
-    edition: u64,
-    hash: u64,
-    key: u64,
-    value: u64,
-) -> Result<Updated, Refusal>
+pub fn insert(a: &mut [u64], z: Shape, edition: u64, entry: Entry) -> Result<Updated, Refusal>
     requires { Lent z a.old }
-    ensures { leaves (update_answer result) a.new ≡ insert_in z a.old edition hash key value }
+    ensures { leaves (update_answer result) a.new ≡ insert_in z a.old edition entry }
 {
-    write_edition(a, z, edition, hash, key, value, false)
+    write_edition(a, z, edition, entry, false)
 }
 
 // An edition with another value for a key that it has, in the lowest free slot.
-pub fn change(
-    a: &mut [u64],
-    z: Shape,
-    edition: u64,
-    hash: u64,
-    key: u64,
-    value: u64,
-) -> Result<Updated, Refusal>
+pub fn change(a: &mut [u64], z: Shape, edition: u64, entry: Entry) -> Result<Updated, Refusal>
     requires { Lent z a.old }
-    ensures { leaves (update_answer result) a.new ≡ change_in z a.old edition hash key value }
+    ensures { leaves (update_answer result) a.new ≡ change_in z a.old edition entry }
 {
-    write_edition(a, z, edition, hash, key, value, true)
+    write_edition(a, z, edition, entry, true)
 }

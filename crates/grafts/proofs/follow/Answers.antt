@@ -1,13 +1,12 @@
 -- `grafts::follow` meets its contract: the bitmap tells the place of the child. Assumes nothing.
-use Rattle.segments.proofs.TableLaws.{below_depths}
-use Rattle.layout.proofs.SizeLaws.{row_is_Right}
+use Rattle.layout.proofs.SizeLaws.{has_segment}
 use mathlib.Core.Path.{sym, ap, ◌∙◌}
 use Rattle.grafts.proofs.StepLaws.{onward_by}
 use Rattle.grafts.proofs.follow.Goals as goal
 use Rattle.std.specs.Prelude.{Some, Ok}
 
 pub segment_at-segment-requires : goal.segment_at-segment-requires
-segment_at-segment-requires c = ((below_depths _ (row_is_Right _ c.requires.lent.allowed) _).0 c.requires.in_depths, (row_is_Right _ c.requires.lent.allowed).few_bits)
+segment_at-segment-requires c = has_segment _ c.requires.lent.allowed _ c.requires.in_depths
 
 pub returns-in-Ok-Some : goal.returns-in-Ok-Some
 returns-in-Ok-Some c = ap Some c.at.ensures ∙ onward_by _ _ _ _ _ _ _ _ c.bits.ensures c.segment_at-segment.ensures (sym c.map_index.ensures ∙ c.in-Ok-Some.is ∙ ap Ok c.in-Ok-Some.field-0-is)

@@ -1,9 +1,8 @@
 -- `grafts::put_child` meets its contract: the row without the new child is shared as far as it is filled, and with the child fills
 -- the new branch. Assumes nothing.
 use mathlib.Core.Path.{◌∙◌}
-use Rattle.segments.proofs.TableLaws.{below_depths}
 use Rattle.sparse_array.proofs.Bitmap.{below_le}
-use Rattle.layout.proofs.SizeLaws.{small, row_is_Right}
+use Rattle.layout.proofs.SizeLaws.{small, has_segment}
 use Rattle.lookup.proofs.Meaning.{segment_low}
 use Rattle.cells.proofs.KeptLaws.{lent_same}
 use Rattle.grafts.proofs.StepLaws.{place_low, gap_few, share_up_to, put_is}
@@ -12,7 +11,7 @@ use native.Mathlib.Omega.{arith}
 use Rattle.grafts.proofs.put_child.Goals as goal
 
 pub segment_at-segment-requires : goal.segment_at-segment-requires
-segment_at-segment-requires c = ((below_depths _ (row_is_Right _ c.requires.lent.allowed) _).0 c.requires.in_depths, (row_is_Right _ c.requires.lent.allowed).few_bits)
+segment_at-segment-requires c = has_segment _ c.requires.lent.allowed _ c.requires.in_depths
 
 pub gap-gap-requires : goal.gap-gap-requires
 gap-gap-requires c = rw c.segment_at-segment.ensures (segment_low _ c.requires.lent.allowed _ _)

@@ -1,4 +1,4 @@
-use mathlib.Core.Path.{sym, ◌∙◌}
+use Rattle.std.proofs.Common.{sym, ◌∙◌}
 use Rattle.audits.proofs.AllLaws.{all_stops, all_over}
 use Rattle.audits.proofs.StepLaws.{all_first}
 use Rattle.levels.specs.Levels.{slot_right, slots_right}

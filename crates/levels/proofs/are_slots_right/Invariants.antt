@@ -1,6 +1,5 @@
 -- `levels::are_slots_right` meets its contract: what is left of the slots decides as all do. Assumes nothing.
-use mathlib.Core.Path.{◌≡◌}
-use Prim.Native.Nat.{◌-◌}
+use Rattle.std.proofs.Common.{◌≡◌, ◌-◌}
 use Rattle.layout.specs.Columns.{columns}
 use Rattle.audits.specs.Audits.{all_from}
 use Rattle.levels.specs.Levels.{slot_right, slots_right}

@@ -1,7 +1,6 @@
 -- `levels::read_branch` meets its contract. Assumes nothing.
-use mathlib.Core.Path.{refl, sym, ◌∙◌}
+use Rattle.std.proofs.Common.{sym, refl, ◌∙◌, arith}
 use Rattle.levels.proofs.StepLaws.{child_Fault, child_seen, lead_named, branch_none, branch_Fault, branch_row}
-use native.Mathlib.Omega.{arith}
 use Rattle.levels.proofs.read_branch.Goals as goal
 
 pub returns-then-child-eq0 : goal.returns-then-child-eq0

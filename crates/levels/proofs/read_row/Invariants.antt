@@ -1,7 +1,6 @@
 -- `levels::read_row` meets its contract: what is left of the row, from the child at hand on, comes to what the whole row comes to.
 -- Assumes nothing.
-use Prim.Native.Nat.{suc, ◌-◌, ◌^◌, ◌≤◌, ◌<◌}
-use mathlib.Core.Path.{◌≡◌}
+use Rattle.std.proofs.Common.{◌≡◌, suc, ◌-◌, ◌^◌, ◌<◌, ◌≤◌}
 use Rattle.layout.specs.Columns.{columns}
 use Rattle.levels.specs.Levels.{row_from, see_at}
 use Rattle.levels.proofs.read_row.Given as given

@@ -1,8 +1,6 @@
 -- `levels::see_branch` meets its contract. Assumes nothing.
-use mathlib.Core.Path.{sym, ◌∙◌}
-use mathlib.Core.List.{[]}
+use Rattle.std.proofs.Common.{[], sym, ◌∙◌, arith}
 use Rattle.levels.proofs.StepLaws.{branch_at, Sees-off, Sees-fault, Sees-kept, keep_fits}
-use native.Mathlib.Omega.{arith}
 use Rattle.levels.proofs.see_branch.Goals as goal
 
 as-answers-kept_at-only_at : {T0 T1 T2 : Type 0} → T0 × (T1 × T2) → record { answers : T0; kept_at : T1; only_at : T2 }

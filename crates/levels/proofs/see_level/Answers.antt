@@ -1,7 +1,6 @@
-use mathlib.Core.Path.{sym, ◌∙◌}
-use Rattle.audits.proofs.AllLaws.{false-true}
+use Rattle.std.proofs.Common.{sym, ◌∙◌, arith}
+use Rattle.std.proofs.lemmas.Bool.{false≢true}
 use Rattle.levels.proofs.StepLaws.{Through-first, Through-next, through_stops, through_only, Through-all}
-use native.Mathlib.Omega.{arith}
 use Rattle.levels.proofs.see_level.Goals as goal
 
 pub loop-i-init : goal.loop-i-init
@@ -14,7 +13,7 @@ returns-then-not-see_branch c =
           (through_stops _ _ _ _ _ _ _ c.loop-i.invariant
           c.loop-i-test.true c.see_branch.ensures.only_at
           (sym c.see_branch.ensures.answers ∙ c.if-not-see_branch.true));
-      is_known = λ y. absurd (false-true y);
+      is_known = λ y. absurd (false≢true y);
       only_branches = through_only _ _ _ _ _ _ _ c.loop-i.invariant
           c.loop-i-test.true c.see_branch.ensures.only_at;
     }

@@ -1,7 +1,6 @@
-use mathlib.Core.Path.{sym, ◌∙◌}
-use Rattle.audits.proofs.AllLaws.{false-true}
+use Rattle.std.proofs.Common.{sym, ◌∙◌, arith}
+use Rattle.std.proofs.lemmas.Bool.{false≢true}
 use Rattle.levels.proofs.StepLaws.{known_at, only_both, levels_on, levels_stop, levels_all}
-use native.Mathlib.Omega.{arith}
 use Rattle.levels.proofs.see_levels.Goals as goal
 
 pub returns-then-not-see_level : goal.returns-then-not-see_level
@@ -11,7 +10,7 @@ returns-then-not-see_level c =
           (c.loop-depth.invariant.same ∙ levels_stop _ _ _ _
           (omega (arith, c.loop-depth-test))
           (sym c.see_level.ensures.answers ∙ c.if-not-see_level.true));
-      is_known = λ y. absurd (false-true y);
+      is_known = λ y. absurd (false≢true y);
       only_branches = (only_both _ _ _ _ c.loop-depth.invariant.only
           c.see_level.ensures.only_branches);
     }

@@ -1,5 +1,5 @@
 -- `levels::see_levels` meets its contract: the levels from the depth at hand on are seen. Assumes nothing.
-use mathlib.Core.Path.{◌≡◌}
+use Rattle.std.proofs.Common.{◌≡◌}
 use Rattle.layout.specs.Columns.{columns}
 use Rattle.levels.specs.Levels.{levels_seen, Known, OnlyBranches}
 use Rattle.levels.proofs.see_levels.Given as given

@@ -1,7 +1,6 @@
 -- `makes::format` meets its contract: the test of the length is the one before 3, and the rest follows from the outcome. Assumes
 -- nothing.
-use native.Mathlib.Omega.{arith}
-use mathlib.Core.Path.{sym, ◌∙◌}
+use Rattle.std.proofs.Common.{sym, ◌∙◌, arith}
 use Rattle.makes.proofs.FormatLaws.{format_done, formats}
 use Rattle.makes.proofs.format.Goals as goal
 

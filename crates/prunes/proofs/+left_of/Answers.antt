@@ -1,5 +1,5 @@
 use Rattle.prunes.proofs.StepLaws.{left_over, left_entry, left_Missing, left_Child}
-use mathlib.Core.Path.{refl, sym, ◌∙◌}
+use Rattle.std.proofs.Common.{sym, refl, ◌∙◌}
 use Rattle.prunes.proofs.+left_of.Goals as goal
 
 pub returns-then-left-eq0 : goal.returns-then-left-eq0

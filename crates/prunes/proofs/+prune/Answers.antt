@@ -1,5 +1,5 @@
 use Rattle.prunes.proofs.StepLaws.{prune_over, prune_entry, prune_Missing, prune_cut, prune_Child}
-use mathlib.Core.Path.{refl, sym, ◌∙◌}
+use Rattle.std.proofs.Common.{sym, refl, ◌∙◌}
 use Rattle.prunes.proofs.+prune.Goals as goal
 
 pub returns-then-left-eq0 : goal.returns-then-left-eq0

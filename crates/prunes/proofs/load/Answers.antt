@@ -2,7 +2,7 @@ use Rattle.layout.specs.Columns.{columns}
 use Rattle.layout.proofs.SizeLaws.{small}
 use Rattle.prunes.specs.Prunes.{out_at}
 use Rattle.grafts.proofs.StepLaws.{IsRow-next}
-use native.Mathlib.Omega.{arith}
+use Rattle.std.proofs.Common.{arith}
 use Rattle.prunes.proofs.load.Goals as goal
 
 pub out-requires : goal.out-requires

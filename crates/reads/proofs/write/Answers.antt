@@ -1,7 +1,7 @@
 use Prim.Native.Nat.{◌+◌, ◌*◌}
-use Rattle.reads.proofs.WriteLaws.{Rest-start, Rest-next, rest_end, part_is}
+use Rattle.reads.proofs.WriteLaws.{Rest-start, Rest-next, rest_end}
 use mathlib.Core.Path.{◌≡◌, sym, ◌∙◌}
-use Rattle.iter.proofs.WalkLaws.{met_stop, entry_here}
+use Rattle.iter.proofs.WalkLaws.{met_stop}
 use mathlib.Core.Logic.{inl}
 use native.Mathlib.Omega.{arith}
 use Rattle.reads.proofs.write.Goals as goal
@@ -17,6 +17,5 @@ returns-then-not-has_entry-clause-leaves c = (rest_end c.loop-k.invariant.0 (inl
 
 pub loop-k-preserved : goal.loop-k-preserved
 loop-k-preserved c =
-    let named = entry_here _ _ (sym c.has_entry.ensures ∙ c.if-not-has_entry.false) in
     let e : 3 * (c.loop-k.k + 1) ≡ 3 * c.loop-k.k + 3 = omega arith in
-    (rw e (Rest-next c.loop-k.invariant.0 c.next.ensures.gives_first (omega (arith, c.loop-k-test.true, c.loop-k.invariant.0.as_long)) (part_is _ _ _ 0 _ named (omega arith) c.word.ensures) (part_is _ _ _ 1 _ named (omega arith) c.word-in-loop-k.ensures) (part_is _ _ _ 2 _ named (omega arith) c.word-in-loop-k-2.ensures)), c.next.ensures.settled)
+    (rw e (Rest-next c.loop-k.invariant.0 c.next.ensures.gives_first (omega (arith, c.loop-k-test.true, c.loop-k.invariant.0.as_long)) c.entry-entry.ensures), c.next.ensures.settled)

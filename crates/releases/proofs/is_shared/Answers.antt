@@ -3,7 +3,7 @@ use mathlib.Core.Path.{sym, ap, ◌∙◌}
 use mathlib.Core.Logic.{inl, inr}
 use lib.Dec.{eqb}
 use Prim.Native.Nat.{ℕ, ◌-◌}
-use borrow.Author.Tests.{eq-eqb, le-ltb}
+use borrow.Author.Tests.{le-ltb}
 use Rattle.layout.proofs.ColumnLaws.{has_low}
 use Rattle.releases.proofs.SharedLaws.{unnamed_not_shared, once_not_shared, entry_shared, branch_shared}
 use native.Mathlib.Omega.{arith}
@@ -20,16 +20,16 @@ word-count-requires c = record { lent = search rules; has_word = has_low _ _ _ (
 pub word-mark-requires : goal.word-mark-requires
 word-mark-requires c = record { lent = search rules; has_word = has_low _ _ _ (sym c.is_cell.ensures ∙ c.if-not-is_cell.false) (omega arith) }
 
-pub returns-then-r-eq1 : goal.returns-then-r-eq1
-returns-then-r-eq1 c = eq-eqb _ 1 c.if-r-eq1.true ∙ entry_shared _ _ _ _ _ (sym c.is_cell.ensures ∙ c.if-not-is_cell.false) c.if-r-eq1.true (omega (arith, c.word-count.ensures, c.if-count-gt1.true))
+pub returns-in-Entry : goal.returns-in-Entry
+returns-in-Entry c = entry_shared _ _ _ _ _ (sym c.is_cell.ensures ∙ c.if-not-is_cell.false) (sym c.in-Entry.ensures) (omega (arith, c.word-count.ensures, c.if-count-le1.false))
 
-pub returns-else-count-gt1 : goal.returns-else-count-gt1
-returns-else-count-gt1 c = le-ltb 1 _ c.if-count-gt1.false ∙ once_not_shared _ _ _ _ _ (omega (arith, c.word-count.ensures, c.if-count-gt1.false))
+pub returns-then-count-le1 : goal.returns-then-count-le1
+returns-then-count-le1 c = once_not_shared _ _ _ _ _ (omega (arith, c.word-count.ensures, c.if-count-le1.true))
 
-pub returns-else-r-eq1 : goal.returns-else-r-eq1
-returns-else-r-eq1 c =
-    branch_shared _ _ _ _ _ _ (sym c.is_cell.ensures ∙ c.if-not-is_cell.false) c.if-r-eq1.false
-    (omega (arith, c.word-count.ensures, c.if-count-gt1.true))
+pub returns-in-Branch : goal.returns-in-Branch
+returns-in-Branch c =
+    branch_shared _ _ _ _ _ _ (sym c.is_cell.ensures ∙ c.if-not-is_cell.false) (λ q. omega (arith, q, c.in-Branch.ensures))
+    (omega (arith, c.word-count.ensures, c.if-count-le1.false))
     (elim c.if-left-gt0.branch [
       | then-left-gt0 w ↦
           inl

@@ -1,6 +1,6 @@
 -- `segments::index_from_hash` meets its contract: each arm is one of the laws of `index_of`, at the row that `degree_row` answered.
 -- Assumes nothing.
-use mathlib.Core.Path.{sym, ◌∙◌, ap}
+use Rattle.std.proofs.Common.{sym, ap, ◌∙◌}
 use Rattle.segments.specs.declared.Index.TheVariants.{At}
 use Rattle.segments.proofs.IndexLaws.{found_right, shift_below, index_at, index_Exhausted, index_no_degree}
 use Rattle.segments.proofs.index_from_hash.Goals as goal

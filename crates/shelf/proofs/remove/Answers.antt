@@ -1,8 +1,8 @@
 -- `shelf::remove` meets its contract: the header is read first, and the rest of the contract follows from the outcome.
 -- Assumes nothing.
 use Rattle.removes.proofs.RemoveLaws.{removes}
-use Rattle.replies.proofs.AnswerLaws.{header_Right, header_Wrong}
-use mathlib.Core.Path.{sym, ◌∙◌}
+use Rattle.replies.proofs.AnswerLaws.{read_Right, read_Wrong}
+use Rattle.std.proofs.Common.{sym, ◌∙◌}
 use Rattle.layout.proofs.HeaderLaws.{header_Lent}
 use Rattle.shelf.proofs.remove.Goals as goal
 
@@ -10,7 +10,7 @@ pub remove-requires : goal.remove-requires
 remove-requires c = header_Lent _ _ (sym c.read.ensures ∙ c.in-Some.is)
 
 pub returns : goal.returns
-returns c = removes _ _ _ _ _ _ (c.remove.ensures ∙ sym (header_Right _ _ _ _ (sym c.read.ensures ∙ c.in-Some.is)))
+returns c = removes _ _ _ _ _ _ (read_Right _ _ _ _ _ _ c.read.ensures c.in-Some.is c.remove.ensures)
 
 pub returns-in_default : goal.returns-in_default
-returns-in_default c = removes _ _ _ _ _ _ (sym (header_Wrong _ _ _ (sym c.read.ensures ∙ c.in_default.is)))
+returns-in_default c = removes _ _ _ _ _ _ (read_Wrong _ _ _ _ c.read.ensures c.in_default.is)

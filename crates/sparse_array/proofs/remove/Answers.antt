@@ -1,8 +1,8 @@
 -- `sparse_array::remove` meets its contract: the word at the place that `map_index` gives is taken out and the index's bit
 -- cleared, or there is nothing to do. Assumes nothing.
-use Prim.Native.Nat.{◌*◌, ◌%◌, ◌^◌}
-use native.Mathlib.Omega.{arith}
-use Rattle.sparse_array.proofs.Bitmap.{shl_one, below_size}
+use Rattle.std.proofs.lemmas.Nat.{one_shl}
+use Rattle.std.proofs.Common.{◌*◌, ◌%◌, ◌^◌, arith}
+use Rattle.sparse_array.proofs.Bitmap.{below_size}
 use Rattle.sparse_array.proofs.Places.{there, free, no_index, refused_is}
 use Rattle.sparse_array.proofs.Changes.{remove_Refused, remove_Nothing, remove_At}
 use Rattle.sparse_array.proofs.remove.Goals as goal
@@ -27,7 +27,7 @@ returns-in-Some c =
     remove_At c.args.bitmap c.args.words.now c.args.index c.in-Some.i (1 * 2 ^ c.args.index % 2 ^ 64)
     c.remove_word.new.words c.ranges.bitmap.fits p (omega arith)
     (rw c.size-count.ensures at c.remove_word.ensures)
-    (shl_one c.args.index p.0)
+    (one_shl c.args.index 64 p.0)
 
 pub returns-in-None : goal.returns-in-None
 returns-in-None c =

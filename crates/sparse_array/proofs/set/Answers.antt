@@ -1,8 +1,8 @@
 -- `sparse_array::set` meets its contract: a word is stored at the place that `map_index` gives, or inserted at the index's
 -- rank with the index's bit set. Assumes nothing.
-use Prim.Native.Nat.{◌*◌, ◌%◌, ◌^◌}
-use native.Mathlib.Omega.{arith}
-use Rattle.sparse_array.proofs.Bitmap.{shl_one, below_le, below_mono, below_size}
+use Rattle.std.proofs.lemmas.Nat.{one_shl}
+use Rattle.std.proofs.Common.{◌*◌, ◌%◌, ◌^◌, arith}
+use Rattle.sparse_array.proofs.Bitmap.{below_le, below_mono, below_size}
 use Rattle.sparse_array.proofs.Places.{there, free, no_index, refused_is}
 use Rattle.sparse_array.proofs.Changes.{set_Refused, set_At-Refused, set_at, set_new_Refused, set_new}
 use Rattle.sparse_array.proofs.set.Goals as goal
@@ -54,4 +54,4 @@ returns-else-words-count-2 c =
     let p = free c.args.bitmap c.args.index c.map_index.ensures c.in_ok-i.was c.in-None.is in
     set_new c.args.bitmap c.args.words.now c.args.index c.args.value (1 * 2 ^ c.args.index % 2 ^ 64) c.insert_word.new.words c.ranges.bitmap.fits p (omega arith)
     (rw (c.rank.ensures, c.size-count.ensures) at c.insert_word.ensures)
-    (shl_one c.args.index p.0)
+    (one_shl c.args.index 64 p.0)

@@ -14,7 +14,7 @@ tally_cells-requires c =
     let σ = columns c.args.z c.args.a.now in
     let long = Works-long _ _ _ _ c.tally_roots.ensures (Works-long _ _ _ _ c.clear.ensures c.requires.work_fits) in
     let low = Low-roots _ σ _ _ _ ok (2 ^ 40) (omega arith) c.clear.ensures c.tally_roots.ensures in
-    record { lent = c.requires.lent; work_fits = long; low = low; few_kids = (small c.args.z ok).degree_high; is_kind = omega arith }
+    record { lent = c.requires.lent; work_fits = long; low = low; few_kids = (small c.args.z ok).degree_high }
 
 pub tally_cells-requires-2 : goal.tally_cells-requires-2
 tally_cells-requires-2 c =
@@ -24,7 +24,7 @@ tally_cells-requires-2 c =
     let low =
     Low-branches _ σ _ _ _ _ c.requires.lent.allowed c.clear.ensures c.tally_roots.ensures c.tally_cells.ensures
     in
-    record { lent = c.requires.lent; work_fits = long; low = low; few_kids = omega arith; is_kind = omega arith }
+    record { lent = c.requires.lent; work_fits = long; low = low; few_kids = omega arith }
 
 pub returns : goal.returns
 returns c =

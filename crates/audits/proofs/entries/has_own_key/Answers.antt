@@ -1,7 +1,6 @@
 -- `audits::entries::has_own_key` meets its contract: the search is for the entry's own hash and key. Assumes nothing.
-use mathlib.Core.Path.{◌≡◌, refl, sym, ap, ◌∙◌}
-use mathlib.Core.Bool.{Bool, true, false, not}
-use native.Mathlib.Omega.{arith}
+use Rattle.std.proofs.Common.{not, sym, ap, ◌∙◌, arith}
+use Rattle.std.proofs.Math.Bool.{not-not}
 use Rattle.lookup.proofs.FindLaws.{has_part, entry_word}
 use Rattle.audits.proofs.StepLaws.{key_free, key_used}
 use Rattle.audits.proofs.entries.has_own_key.Goals as goal
@@ -18,13 +17,9 @@ word-hash-requires c = record { lent = c.requires.lent; has_word = has_part _ _ 
 pub word-key-requires : goal.word-key-requires
 word-key-requires c = record { lent = c.requires.lent; has_word = has_part _ _ _ c.requires.is_entry (omega arith) }
 
-not_not : (b : Bool) → b ≡ not (not b)
-not_not true = refl
-not_not false = refl
-
 pub returns : goal.returns
 returns c =
     let hash = c.word-hash.ensures ∙ sym (entry_word _ _ _ 0 c.requires.is_entry (omega arith)) in
     let key = c.word-key.ensures ∙ sym (entry_word _ _ _ 1 c.requires.is_entry (omega arith)) in
     let own = key_used _ _ _ _ c.word.ensures _ _ _ _ c.if-word-eq0.false c.kid-behind.ensures hash key (sym c.find.ensures) in
-    not_not _ ∙ ap not (sym c.is_none.ensures) ∙ sym own
+    sym (not-not _) ∙ ap not (sym c.is_none.ensures) ∙ sym own

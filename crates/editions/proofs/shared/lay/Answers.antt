@@ -2,8 +2,8 @@
 -- its shape.
 -- Assumes nothing.
 use Rattle.std.proofs.Common.{sym, ◌∙◌}
-use Rattle.layout.proofs.HeaderLaws.{Header-says, Header-Lent}
+use Rattle.layout.proofs.HeaderLaws.{header_Lent}
 use Rattle.editions.proofs.shared.lay.Goals as goal
 
 pub lay_in-requires : goal.lay_in-requires
-lay_in-requires g c = Header-Lent _ _ ((Header-says _ _).0 (sym c.read.ensures ∙ c.in-Some.is))
+lay_in-requires g c = header_Lent _ _ (sym c.read.ensures ∙ c.in-Some.is)

@@ -5,4 +5,4 @@ use Rattle.std.proofs.Common.{sym, ◌∙◌, rules}
 use Rattle.editions.proofs.shared.lay_in.Goals as goal
 
 pub fill_entry-requires : goal.fill_entry-requires
-fill_entry-requires c = record { lent = search rules; is_entry = (sym c.is_cell.ensures ∙ c.if-is_cell.true, c.if-r-eq1.true) }
+fill_entry-requires c = record { lent = search rules; is_entry = (sym c.is_cell.ensures ∙ c.if-is_cell.true, sym c.in-Entry.ensures) }

@@ -2,8 +2,7 @@
 use native.Mathlib.Omega.{arith}
 use Rattle.lookup.proofs.Meaning.{segment_low}
 use Rattle.lookup.proofs.FindLaws.{kind_says, has_part}
-use Rattle.segments.proofs.TableLaws.{below_depths}
-use Rattle.layout.proofs.SizeLaws.{row_is_Right}
+use Rattle.layout.proofs.SizeLaws.{has_segment}
 use Rattle.layout.proofs.ColumnLaws.{has_low}
 use mathlib.Core.Path.{sym, ◌∙◌}
 use Rattle.grafts.proofs.StepLaws.{bits_branch, entry_bits, bits_none}
@@ -19,7 +18,7 @@ pub word-requires-then-is_entry : goal.word-requires-then-is_entry
 word-requires-then-is_entry c = record { lent = c.requires.lent; has_word = has_part _ _ _ (sym c.is_entry.ensures ∙ c.if-is_entry.true) (omega arith) }
 
 pub segment_at-requires : goal.segment_at-requires
-segment_at-requires c = ((below_depths _ (row_is_Right _ c.requires.lent.allowed) _).0 c.requires.in_depths, (row_is_Right _ c.requires.lent.allowed).few_bits)
+segment_at-requires c = has_segment _ c.requires.lent.allowed _ c.requires.in_depths
 
 pub overflow_shl-result : goal.overflow_shl-result
 overflow_shl-result c = omega (arith, segment_low _ c.requires.lent.allowed c.args.depth c.word-then-is_entry.result, c.segment_at.ensures)

@@ -5,6 +5,7 @@ use native.Mathlib.Nat.{add-mul}
 use lib.ListN.{length}
 use lib.Seq.{length-sets}
 use borrow.Author.Rules.{rules}
+use Rattle.layout.specs.Layout.{number_of_kind}
 use Rattle.layout.proofs.OffsetLaws.{place_lt}
 use Rattle.layout.proofs.WriteLaws.{cells_first, cells_none}
 use Rattle.layout.proofs.format.free_cells.Goals as goal
@@ -46,7 +47,7 @@ loop-i-preserved c =
     let e = c.free_cell.ensures in (
       omega (arith, add-mul l.i 1 (2 + s.rest)),
       ap length e ∙ simp length-sets l.invariant.1,
-      cells_first s.kind s.rest l.a l.here l.i s.n _ _ (omega arith) c.next_free.ensures e ∙ l.invariant.2,
+      cells_first (number_of_kind s.kind) s.rest l.a l.here l.i s.n _ _ (omega arith) c.next_free.ensures e ∙ l.invariant.2,
     )
 
 pub shape_of-a : goal.shape_of-a
@@ -56,4 +57,4 @@ pub returns : goal.returns
 returns c =
     let s = c.args in
     let l = c.loop-i in
-    sym (cells_none s.kind s.rest l.a l.here l.i s.n (omega arith)) ∙ l.invariant.2
+    sym (cells_none (number_of_kind s.kind) s.rest l.a l.here l.i s.n (omega arith)) ∙ l.invariant.2
