@@ -109,10 +109,7 @@ pub fn equal(a: &[u64], z: Shape, first: u64, second: u64) -> Result<bool, Refus
     requires { Lent z a.now }
     ensures { truth_answer result ≡ equal_in z a.now first second }
 {
-    if !slots::is_held(a, z, first) {
-        return Err(Refusal::NoSuchEdition);
-    }
-    if !slots::is_held(a, z, second) {
+    if !slots::is_held(a, z, first) || !slots::is_held(a, z, second) {
         return Err(Refusal::NoSuchEdition);
     }
     Ok(is_equal(a, z, first, second))

@@ -29,7 +29,7 @@ use Rattle.updates.specs.Calls.{plan_of, write_to, insert_of}
 use Rattle.updates.proofs.TestLaws.{writing}
 use Rattle.updates.proofs.UpdateLaws.{inserts}
 use Rattle.removes.specs.declared.Cut.{Cut}
-use Rattle.removes.specs.Calls.{cut_of, lacks, chain_to, cut_to, remove_of}
+use Rattle.removes.specs.Calls.{the_cut, cut_of, lacks, chain_to, cut_to, remove_of}
 use Rattle.removes.proofs.CaseLaws.{removing}
 use Rattle.removes.proofs.RemoveLaws.{removes}
 use Rattle.drops.specs.Calls.{free_in, drop_in, drop_of}
@@ -149,7 +149,7 @@ a_program =
           (update_Says a e (writing a e h k v false) (λ z. write_Says z a (an_entry h k v) (plan_of z a e h k))) (inserts a e h k v fits);
       remove =
           λ a e h k.
-          did (remove_of a e h k) (update_Says a e (removing a e h k) (λ z. cut_Says z a h (cut_of z a e h k))) (removes a e h k);
+          did (remove_of a e h k) (update_Says a e (removing a e h k) (λ z. cut_Says z a h (the_cut (cut_of z a e h k)))) (removes a e h k);
       drop = λ a e. did (drop_of a e) (drop_Says a e) (drops a e);
       get =
           λ a e h k.

@@ -1,6 +1,6 @@
 -- What remove does, case by case, on any words: what its reading pass finds, by the search; and what it leaves where it is given a
 -- slot. So it is an update (grants).
-use Rattle.std.proofs.Common.{◌≡◌, ℕ, true, false, List, Some, None, sym, ◌∙◌, subst}
+use Rattle.std.proofs.Common.{◌≡◌, ℕ, true, false, List, Option, Some, None, is_some, sym, ◌∙◌, subst}
 use Rattle.cases.proofs.Cases.{split}
 use Rattle.layout.specs.declared.Shape.{Shape}
 use Rattle.layout.specs.Columns.{State, columns}
@@ -14,11 +14,12 @@ use Rattle.replies.specs.Outcomes.{Outcome, leaves}
 use Rattle.grants.specs.Rooms.{held_to, hold_to}
 use Rattle.grants.proofs.CaseLaws.{Update}
 use Rattle.removes.specs.declared.Cut.{Cut}
-use Rattle.removes.specs.Calls.{cutting, absent, cut_of, lacks, chain_to, take_to, cut_to}
+use Rattle.removes.specs.Calls.{cutting, the_cut, cut_of, lacks, chain_to, take_to, cut_to}
 
 -- what a call knows once it has read, and what it does with a slot: by what was found, and by what the reading pass finds
-abbrev pub removing_by : Shape → List ℕ → ℕ → Cut → Update
-removing_by z a h p = record { wanted = p.found; branches = p.branches; entries = p.tail.count; does = cut_to z a h p }
+abbrev pub removing_by : Shape → List ℕ → ℕ → Option Cut → Update
+removing_by z a h c =
+    let p = the_cut c in record { wanted = is_some c; branches = p.branches; entries = p.tail.count; does = cut_to z a h p }
 
 abbrev pub removing : List ℕ → ℕ → ℕ → ℕ → Shape → Update
 removing a e h k z = removing_by z a h (cut_of z a e h k)
@@ -32,11 +33,11 @@ module _ (z : Shape) (a : List ℕ) (e h k : ℕ) where
   σ = columns z a
 
   pub cut_there : (q : ℕ) → hit_from z σ h k (longest z) (end_of z a e h) ≡ Some q
-      → cut_of z a e h k ≡ cutting z σ (σ.root e) (σ.size e) h (end_of z a e h) q
+      → cut_of z a e h k ≡ Some (cutting z σ (σ.root e) (σ.size e) h (end_of z a e h) q)
   unfolding cut_of
   cut_there q y = rw y
 
-  pub cut_absent : hit_from z σ h k (longest z) (end_of z a e h) ≡ None → cut_of z a e h k ≡ absent
+  pub cut_absent : hit_from z σ h k (longest z) (end_of z a e h) ≡ None → cut_of z a e h k ≡ None
   unfolding cut_of
   cut_absent y = rw y
 

@@ -1,6 +1,6 @@
 -- On an edition the reading pass says what the trie's own remove takes and makes: whether the key is there, and where it is the
 -- counts, whether anything is left, the size afterwards, and the chains that the writers copy and share.
-use Rattle.std.proofs.Common.{◌≡◌, ℕ, ◌-◌, List, ◌∷◌, ◌++◌, length, sym, refl, ap, ◌∙◌, arith}
+use Rattle.std.proofs.Common.{◌≡◌, ℕ, ◌-◌, List, ◌∷◌, ◌++◌, length, sym, refl, ap, ◌∙◌, arith, is_some}
 use Rattle.segments.specs.Segments.{segment}
 use Rattle.layout.specs.declared.Shape.{Shape}
 use Rattle.layout.specs.Layout.{Lent}
@@ -19,7 +19,7 @@ use Rattle.chains.specs.Chains.{length_at}
 use Rattle.chains.proofs.LengthLaws.{length_before}
 use Rattle.grafts.proofs.CaseLaws.{has_key, is_there_lem, is_absent}
 use Rattle.removes.specs.declared.Cut.{Cut}
-use Rattle.removes.specs.Calls.{left_branches, is_none_left, cutting, cut_of}
+use Rattle.removes.specs.Calls.{left_branches, is_none_left, cutting, the_cut, cut_of}
 use Rattle.removes.proofs.CaseLaws.{end_of, cut_there, cut_absent}
 use Rattle.removes.proofs.LeftLaws.{chain_under, chain_left, map_left}
 use Rattle.removes.proofs.MapLaws.{without, takes, is_none, none_left, left_branches_lem, size_left}
@@ -44,10 +44,10 @@ pub record Cuts (z : Shape) (a : List ℕ) (b f : ℕ → ℕ) (h k : ℕ) (m m'
 module _ {z : Shape} {a : List ℕ} (l : Lent z a) (e h k : ℕ) (m : Map ℕ) (good : Good z m)
     (shown : ShowsMap (columns z a) m ((columns z a).root e)) where
   -- WHETHER THE KEY IS THERE
-  pub cut_found : (cut_of z a e h k).found ≡ has_key z h k m
+  pub cut_found : is_some (cut_of z a e h k) ≡ has_key z h k m
   cut_found = by (get (segment z.bits) z.depths h k m) refl
     where
-      by : (g : Got) → get (segment z.bits) z.depths h k m ≡ g → (cut_of z a e h k).found ≡ has_key z h k m
+      by : (g : Got) → get (segment z.bits) z.depths h k m ≡ g → is_some (cut_of z a e h k) ≡ has_key z h k m
       by (got v) g =
           let (q, y, s) = map_hit_there z a l.allowed Word64 h k m _ good shown v g in
           rw (cut_there z a e h k q y) (unfold cutting in (sym (is_there_lem v refl g)))
@@ -57,7 +57,7 @@ module _ {z : Shape} {a : List ℕ} (l : Lent z a) (e h k : ℕ) (m : Map ℕ) (
   -- WHERE IT IS
   module _ (b f : ℕ → ℕ) (v : ℕ) (g : get (segment z.bits) z.depths h k m ≡ got v) (m' : Map ℕ)
       (q : without z b f h k m ≡ updated m') where
-    pub cut_means : (columns z a).size e ≡ size m → Cuts z a b f h k m m' ((columns z a).root e) (cut_of z a e h k)
+    pub cut_means : (columns z a).size e ≡ size m → Cuts z a b f h k m m' ((columns z a).root e) (the_cut (cut_of z a e h k))
     unfolding cutting
     cut_means sized =
         let (i, y, s) = map_hit_there z a l.allowed Word64 h k m _ good shown v g in

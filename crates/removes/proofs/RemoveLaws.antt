@@ -10,7 +10,7 @@ use Rattle.trie.proofs.RenameMaps.{rename-remove}
 use Rattle.replies.specs.Answers.{update_answer}
 use Rattle.replies.specs.Outcomes.{leaves}
 use Rattle.grants.proofs.MeansLaws.{Writer, Builds, updates}
-use Rattle.removes.specs.Calls.{cut_of, remove_of}
+use Rattle.removes.specs.Calls.{the_cut, cut_of, remove_of}
 use Rattle.removes.specs.Terms.{remove_step, Removes}
 use Rattle.removes.proofs.CaseLaws.{removing}
 use Rattle.removes.proofs.InsideLaws.{cut_Kept}
@@ -31,8 +31,8 @@ remove_Builds h k z b f m result t q =
 pub writer : (a : List ℕ) (e h k : ℕ) → Writer a e (remove_step h k) (removing a e h k)
 writer a e h k =
     record {
-      inside = λ z head. cut_Kept (Header-Lent a z head) h (cut_of z a e h k);
-      slot = λ z head. cut_slot z a h (cut_of z a e h k);
+      inside = λ z head. cut_Kept (Header-Lent a z head) h (the_cut (cut_of z a e h k));
+      slot = λ z head. cut_slot z a h (the_cut (cut_of z a e h k));
       does = λ S z head m E there. removal_Does a S z head e h k m E there;
     }
 

@@ -13,7 +13,7 @@ use Rattle.removes.specs.Calls.{left_branches, is_none_left, cutting}
 pub cut_is : (z : Shape) (σ : State) (root size h front q l f : ℕ) (left : Left) (s m n r b : ℕ) (y : Bool) → l ≡ length_at z σ front
     → f ≡ l - 1 → left ≡ left_from z σ h f z.depths (z.depths - z.depths) root → s ≡ size - 1 → m ≡ length_at z σ q → n ≡ l - m
     → r ≡ σ.kid q 0 → b ≡ left_branches left → y ≡ is_none_left left
-    → record { root = root; size = s; tail = record { count = n; from = front; rest = r }; branches = b; empty = y; found = true }
+    → record { root = root; size = s; tail = record { count = n; from = front; rest = r }; branches = b; empty = y }
     ≡ cutting z σ root size h front q
 unfolding cutting
 cut_is z σ root size h front q l f left s m n r b y el ef eleft es em en er eb ey =

@@ -1,6 +1,6 @@
 -- What remove answers and every word that it leaves, on any words: document 01, "Answer numbers", its tests in its order, and
 -- "What an update takes".
-use Rattle.std.specs.Prelude.{ℕ, ◌-◌, Bool, true, false, cond, List, eqb, ltb, Option, Some, None}
+use Rattle.std.specs.Prelude.{ℕ, ◌-◌, Bool, true, false, cond, List, eqb, ltb, Option, Some, None, is_some, unwrap_or}
 use Rattle.layout.specs.declared.Shape.{Shape}
 use Rattle.layout.specs.Header.{header_of}
 use Rattle.layout.specs.Columns.{State, columns}
@@ -36,21 +36,17 @@ cutting z σ root size h front q =
       tail = record { count = length_at z σ front - length_at z σ q; from = front; rest = σ.kid q 0 };
       branches = left_branches left;
       empty = is_none_left left;
-      found = true;
     }
 
 -- or it is not there
-abbrev pub absent : Cut
-absent = record { root = 0; size = 0; tail = record { count = 0; from = 0; rest = 0 }; branches = 0; empty = false; found = false }
+abbrev pub cut_by : Shape → State → ℕ → ℕ → ℕ → ℕ → Option ℕ → Option Cut
+cut_by z σ root size h front (Some q) = Some (cutting z σ root size h front q)
+cut_by z σ root size h front None = None
 
-abbrev pub cut_by : Shape → State → ℕ → ℕ → ℕ → ℕ → Option ℕ → Cut
-cut_by z σ root size h front (Some q) = cutting z σ root size h front q
-cut_by z σ root size h front None = absent
-
-abbrev pub cut_from : Shape → State → ℕ → ℕ → ℕ → ℕ → ℕ → Cut
+abbrev pub cut_from : Shape → State → ℕ → ℕ → ℕ → ℕ → ℕ → Option Cut
 cut_from z σ root size h k front = cut_by z σ root size h front (hit_from z σ h k (longest z) front)
 
-unfoldable pub cut_of : Shape → List ℕ → ℕ → ℕ → ℕ → Cut
+unfoldable pub cut_of : Shape → List ℕ → ℕ → ℕ → ℕ → Option Cut
 cut_of z a e h k =
     let σ = columns z a in cut_from z σ (σ.root e) (σ.size e) h k (path_end z σ h z.depths 0 (σ.root e))
 
@@ -77,9 +73,15 @@ cut_to z a h p s =
 abbrev pub cutting_to : Shape → List ℕ → ℕ → Cut → Outcome
 cutting_to z a h p = on_room a (room_of z a p.branches p.tail.count) (cut_to z a h p)
 
+-- the plan, for a key that is there; of another nothing is asked
+abbrev pub the_cut : Option Cut → Cut
+the_cut c =
+    unwrap_or c
+    (record { root = 0; size = 0; tail = record { count = 0; from = 0; rest = 0 }; branches = 0; empty = false })
+
 -- the call, by its plan. 6: "remove: key not there"
-abbrev pub remove_by : Shape → List ℕ → ℕ → ℕ → Cut → Outcome
-remove_by z a e h p = update_in z a e p.found p.branches p.tail.count (cut_to z a h p)
+abbrev pub remove_by : Shape → List ℕ → ℕ → ℕ → Option Cut → Outcome
+remove_by z a e h c = update_in z a e (is_some c) (the_cut c).branches (the_cut c).tail.count (cut_to z a h (the_cut c))
 
 abbrev pub remove_in : Shape → List ℕ → ℕ → ℕ → ℕ → Outcome
 remove_in z a e h k = remove_by z a e h (cut_of z a e h k)

@@ -12,7 +12,7 @@ ghost use Rattle.layout.specs.Columns.{columns};
 ghost use Rattle.cells.specs.Slots.{held_slot};
 ghost use Rattle.replies.specs.Answers.{update_answer};
 ghost use Rattle.replies.specs.Outcomes.{leaves};
-ghost use Rattle.removes.specs.Calls.{left_branches, is_none_left, cutting, absent, cut_of, lacks, pruned_to, take_to, cut_to, cutting_to, remove_in};
+ghost use Rattle.removes.specs.Calls.{left_branches, is_none_left, cutting, cut_of, lacks, pruned_to, take_to, cut_to, cutting_to, remove_in};
 
 use cells::{shares, slots};
 use chains::Tail;
@@ -23,15 +23,14 @@ use replies::{Refusal, Updated};
 
 // What the reading pass finds: the edition's root, the size of the new edition; what will be left of the chain at the end of the
 // path, namely copies of the entries before the one that is removed and what stands behind it; how many branches will be left on
-// the path; whether nothing at all will be left; and whether the key is there.
-#[derive(Clone, Copy)]
+// the path; and whether nothing at all will be left, which the writing pass reads once.
+#[derive(Clone, Copy, Debug, PartialEq, Eq)]
 pub struct Cut {
     pub root: u64,
     pub size: u64,
     pub tail: Tail,
     pub branches: u64,
     pub empty: bool,
-    pub found: bool,
 }
 
 fn branches_left(left: Left) -> u64
@@ -72,31 +71,12 @@ fn plan_cut(a: &[u64], z: Shape, root: u64, size: u64, hash: u64, front: u64, hi
         },
         branches: branches_left(left),
         empty: none_left(left),
-        found: true,
     }
 }
 
-// The key is not there.
-fn nothing() -> Cut
-    ensures { result ≡ absent }
-{
-    Cut {
-        root: 0,
-        size: 0,
-        tail: Tail {
-            count: 0,
-            from: 0,
-            rest: 0,
-        },
-        branches: 0,
-        empty: false,
-        found: false,
-    }
-}
-
-// The reading pass below an edition that is held.
+// The reading pass below an edition that is held. None where the key is not there.
 #[tactic(auto, using(lookup::proofs::FindLaws::survey_is), unfolding(crate::specs::Calls::cut_of))]
-fn survey(a: &[u64], z: Shape, edition: u64, hash: u64, key: u64) -> Cut
+fn survey(a: &[u64], z: Shape, edition: u64, hash: u64, key: u64) -> Option<Cut>
     requires lent { Lent z a.now }
     requires in_slots { edition < z.slots }
     ensures { result ≡ cut_of z a.now edition hash key }
@@ -105,8 +85,8 @@ fn survey(a: &[u64], z: Shape, edition: u64, hash: u64, key: u64) -> Cut
     let size = words::slot_word(a, z, edition, words::SIZE);
     let front = lookup::descend(a, z, root, hash);
     match lookup::find(a, z, front, hash, key) {
-        Some(hit) => plan_cut(a, z, root, size, hash, front, hit),
-        None => nothing(),
+        Some(hit) => Some(plan_cut(a, z, root, size, hash, front, hit)),
+        None => None,
     }
 }
 
@@ -134,7 +114,7 @@ fn write_path(
 fn is_lacking(leaf: u64, before: u64) -> bool
     ensures { result ≡ lacks leaf before }
 {
-    if leaf == 0 { before > 0 } else { false }
+    leaf == 0 && before > 0
 }
 
 // The chain without the entry, then the path above it. On a sound arena there are the cells that were counted; on any other a
@@ -193,12 +173,8 @@ fn remove_held(
     requires is_held { held_slot z a.old edition ≡ true }
     ensures { leaves (update_answer result) a.new ≡ remove_in z a.old edition hash key }
 {
-    let found = survey(&*a, z, edition, hash, key);
-    if found.found {
-        write_found(a, z, hash, found)
-    } else {
-        Err(Refusal::Absent)
-    }
+    let found = survey(&*a, z, edition, hash, key).ok_or(Refusal::Absent)?;
+    write_found(a, z, hash, found)
 }
 
 // An edition with an entry taken out, in the lowest free slot.

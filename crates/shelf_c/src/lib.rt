@@ -18,7 +18,7 @@ ghost use Rattle.drops.specs.Terms.{Drops};
 ghost use Rattle.checks.specs.Terms.{Checks};
 ghost use Rattle.looks.specs.Terms.{Sizes, Uses, Gets, Lists, Compares};
 
-use flat::{Flat, done};
+use flat::{Flat, Values, done};
 use tags::Class;
 
 // Makes an arena of the words; every edition that was in it ends.
@@ -163,16 +163,10 @@ pub extern "C" fn shelf_tag_class(group: u16, element: u16) -> Flat
     of_class(tags::class_of(group, element))
 }
 
-fn of_key(key: u64) -> Flat
-    ensures { held result ≡ keyed key }
-{
-    done(key, 0, 0)
-}
-
 // The key of a tag by rule 1.
 #[unsafe(no_mangle)]
 pub extern "C" fn shelf_key_1(group: u16, element: u16) -> Flat
     ensures { Says keyed (λ x. x ≡ key1 group element) result }
 {
-    of_key(tags::key_1(group, element))
+    tags::key_1(group, element).flat()
 }

@@ -25,7 +25,8 @@ use trie::Entry;
 // What the reading pass finds: the edition's root, the size of the new edition; what will stand behind the new entry, namely
 // copies of the entries before the one that is replaced and what is shared, and how long the new chain is; how many branches
 // the new path has; and whether an entry is replaced.
-#[derive(Clone, Copy)]
+// `replaced` is a flag and no enum: it is one operand of the tests that read it, and chooses no step.
+#[derive(Clone, Copy, Debug, PartialEq, Eq)]
 pub struct Plan {
     pub root: u64,
     pub size: u64,
@@ -126,7 +127,7 @@ fn write_planned(a: &mut [u64], z: Shape, entry: Entry, plan: Plan) -> Result<Up
     write(a, z, entry, plan, slot)
 }
 
-// Insert and change differ in one thing: a change wants the key to be there.
+// Insert and change differ in one thing: a change wants the key to be there. `present` is read in this one test alone.
 fn wants(present: bool, plan: Plan) -> bool
     ensures { result ≡ wanted present plan }
 {
