@@ -14,7 +14,7 @@ pub const PLACES: usize = 65;
 
 // A walk: the branches that wait, the cell that it looks at next, how many places of its stack are taken, and how many cells it may
 // still visit.
-#[derive(Drop)]
+#[derive(Clone, Copy)]
 pub struct Walk {
     pub stack: [u64; PLACES],
     pub at: u64,

@@ -52,7 +52,8 @@ impl Walk {
         self.dig(a, z);
     }
 
-    // Down to the next entry: each branch on the way waits, from its second child on.
+    // Down to the next entry: each branch on the way waits, from its second child on. The walk's numbers are in hand meanwhile:
+    // behind its reference each would be read again after every place that is stored.
     #[tactic(auto, using(crate::proofs::WalkLaws::full_stack, crate::proofs::WalkLaws::no_branch, crate::proofs::WalkLaws::cell_small, crate::proofs::WalkLaws::dig_on, lookup::proofs::FindLaws::kind_says))]
     fn dig(&mut self, a: &[u64], z: Shape)
         requires { Lent z a.now }
@@ -60,16 +61,19 @@ impl Walk {
         ensures settled { Settled z self.new }
         ensures visits_left { self.new.left ≤ self.old.left }
     {
+        let mut at = self.at;
+        let mut depth = self.depth;
+        let mut left = self.left;
         // A while: what is left to visit is the walk's own count, which goes on from call to call.
-        while self.left > 0 {
-            if PLACES <= self.depth || !links::is_branch(z, self.at) {
-                return;
-            }
-            self.stack[self.depth] = self.at * BASE + 1;
-            self.depth += 1;
-            self.left -= 1;
-            self.at = links::kid(a, z, self.at, 0);
+        while left > 0 && depth < PLACES && links::is_branch(z, at) {
+            self.stack[depth] = at * BASE + 1;
+            depth += 1;
+            left -= 1;
+            at = links::kid(a, z, at, 0);
         }
+        self.at = at;
+        self.depth = depth;
+        self.left = left;
     }
 
     // Up to the last branch that has a child to go to.
@@ -80,18 +84,21 @@ impl Walk {
         ensures places_left { waiting self.new.stack self.new.depth ≡ (climbed (columns z a.now) (waiting self.old.stack self.old.depth)).places }
         ensures visits_left { self.new.left ≡ self.old.left }
     {
+        let mut depth = self.depth;
         // A while: how many places are taken is the walk's own, which goes on from call to call.
-        while self.depth > 0 {
-            let place = self.stack[self.depth - 1];
+        while depth > 0 {
+            let place = self.stack[depth - 1];
             let r = links::kid(a, z, place / BASE, place % BASE);
             if r != 0 {
-                self.stack[self.depth - 1] = place + 1;
+                self.stack[depth - 1] = place + 1;
                 self.at = r;
+                self.depth = depth;
                 return;
             }
-            self.depth -= 1;
+            depth -= 1;
         }
         self.at = 0;
+        self.depth = 0;
     }
 
     // Past an entry: to the next in its chain, or else up.

@@ -2,11 +2,27 @@
 //! and 6 slots: branch cells of 19 words lie from word 30 on, and behind them the entry cells, of 6 words.
 ghost use Rattle.std.specs.Prelude.{◌<◌, ◌≤◌};
 
-use layout::Kind;
 use shown::lent;
 
 // No arena here has more branch cells or more entry cells.
 const MOST: u64 = 49;
+
+// The two kinds of cells, told by a reference's last bit: worked out here and not by the library, whose words are looked at.
+#[derive(Clone, Copy, Debug, PartialEq, Eq)]
+enum Kind {
+    Branch,
+    Entry,
+}
+
+impl Kind {
+    fn of(r: u64) -> Kind {
+        if r % 2 == 0 {
+            Kind::Branch
+        } else {
+            Kind::Entry
+        }
+    }
+}
 
 // Whether the words from a place on and before another are 0.
 fn is_zero(a: &[u64], from: usize, end: usize) -> bool {

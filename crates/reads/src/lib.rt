@@ -12,7 +12,7 @@ ghost use Rattle.reads.specs.Listed.{written, written_over};
 ghost use Rattle.reads.specs.Agrees.{is_entry_in, agree};
 
 use iter::Walk;
-use layout::Shape;
+use layout::{Shape, words};
 use trie::Entry;
 
 // The words that an entry takes in an output: hash, key, value.
@@ -68,14 +68,16 @@ pub fn list(a: &[u64], z: Shape, root: u64, place: u64, out: &mut [u64]) -> u64
     write(a, z, &mut walk, out)
 }
 
-// Whether an entry stands below a root with the same value.
-#[tactic(auto, using(crate::proofs::WriteLaws::is_in_value, crate::proofs::WriteLaws::is_in_missing))]
+// Whether an entry stands below a root with the same value. It goes into the chain itself: the lookup then has one caller, and
+// becomes one piece of code with the call.
+#[tactic(auto, using(crate::proofs::WriteLaws::is_in_value, crate::proofs::WriteLaws::is_in_missing, lookup::proofs::FindLaws::hit_names, lookup::proofs::FindLaws::has_part, lookup::proofs::FindLaws::entry_word, lookup::proofs::FindLaws::value_below))]
 fn is_in(a: &[u64], z: Shape, root: u64, entry: Entry) -> bool
     requires { Lent z a.now }
     ensures { result ≡ is_entry_in z a.now root entry }
 {
-    match lookup::get(a, z, root, entry.hash, entry.key) {
-        Some(value) => value == entry.value,
+    let front = lookup::descend(a, z, root, entry.hash);
+    match lookup::find(a, z, front, entry.hash, entry.key) {
+        Some(hit) => words::word(a, z, hit, words::VALUE) == entry.value,
         None => false,
     }
 }

@@ -97,6 +97,8 @@ fn lessen(a: &mut [u64], z: Shape, t: &[u64], r: u64)
 
 // The children of a branch from `from` on are let go as far as other words name them too, as they do most: without a call of
 // `release`, which costs more than a count. Answers the first that is left, or the degree. What the row came to so far goes on.
+// Never put into `release`, whose frame stands on the stack once for each depth.
+#[inline(never)]
 #[tactic(auto, using(layout::proofs::SizeLaws::small))]
 fn pass(a: &mut [u64], z: Shape, left: u64, r: u64, from: u64) -> u64
     requires lent { Lent z a.old }

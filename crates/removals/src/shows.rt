@@ -1,7 +1,6 @@
 //! An update shown: the cells that it took, what is in use behind it, its root, and every edition up to its own.
 ghost use Rattle.std.specs.Prelude.{◌<◌};
 
-use layout::Kind;
 use shelf::{Refusal, Updated};
 use shown::entries::Entry;
 use shown::{answer, lent, listed};
@@ -10,7 +9,8 @@ use std::io;
 // No arena here has more slots.
 const SLOTS: u64 = 16;
 
-// What the root of an edition is. A slot has three words, from word 12 on; the second names the root.
+// What the root of an edition is. A slot has three words, from word 12 on; the second names the root, an entry by an odd
+// number.
 fn say_root(rt: &impl Print, a: &[u64], edition: u64) -> io::Result<()>
     requires { edition < 16 }
 {
@@ -18,9 +18,10 @@ fn say_root(rt: &impl Print, a: &[u64], edition: u64) -> io::Result<()>
     if root == 0 {
         return println!(rt; "; root 0");
     }
-    match Kind::of(root) {
-        Kind::Branch => println!(rt; "; root a branch"),
-        Kind::Entry => println!(rt; "; root an entry"),
+    if root % 2 == 0 {
+        println!(rt; "; root a branch")
+    } else {
+        println!(rt; "; root an entry")
     }
 }
 

@@ -19,7 +19,8 @@ pub fn count(damaged: [bool; 4]) -> u64 {
     damaged.iter().filter(|four| **four).count() as u64
 }
 
-// The calls with each of words 0 to 7 made wrong, which is put back: how often they answer 4.
+// The calls with each of words 0 to 7 made wrong: how often they answer 4. A word is put back by what it was changed by, so that
+// one that a call wrote to in between still shows.
 pub fn wrong_words<W: Fn(u64) -> u64, F: Fn(&mut [u64]) -> u64>(
     a: &mut [u64],
     wrong: W,
@@ -31,9 +32,11 @@ pub fn wrong_words<W: Fn(u64) -> u64, F: Fn(&mut [u64]) -> u64>(
     let mut fours = 0u64;
     for at in 0..8 {
         let before = lent::word(a, at);
-        lent::put(a, at, wrong(before));
+        let damaged = wrong(before);
+        lent::put(a, at, damaged);
         fours = fours.saturating_add(calls(&mut *a));
-        lent::put(a, at, before);
+        let left = lent::word(a, at);
+        lent::put(a, at, left.wrapping_sub(damaged).wrapping_add(before));
     }
     fours
 }
